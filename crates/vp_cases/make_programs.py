@@ -24,7 +24,7 @@ Programs are free of races, for each time modulo 10 has its own work:
 - Regs begin at 0, if no process waits for them then, or at 2, 3 or 4; the reset changes at 8; `$finish` is executed at 2, and the values are shown at 1.
 
 What is expected is computed here, by a simulator of IEEE Std 1364-2005, clauses 5, 6, 9, 11 and 12, which runs each program in several orders of
-its active events, statement by statement; they must agree. A program in which Icarus departs from the standard in one of the ways that
+its active events, statement by statement. Where they do not agree, the program is passed over. One in which Icarus departs from the standard in one of the ways that
 make_expressions.py and make_hierarchy.py name, or in one of these, is left out and counted; any other difference ends the script:
 
 - KEEPS_Z, CUTS_INDEX and SHIFTS_NOTHING of make_expressions.py, SIZES_ALONE of make_hierarchy.py;
@@ -1168,17 +1168,24 @@ def text_of(modules):
     return "".join("\n".join(module.lines) + "\n" for module in modules)
 
 
-def judged():
-    """A program that is neither too long nor too short, its text, its run, and the departures of Icarus in it."""
+def fitting():
+    """A program that is neither too long nor too short, and its text."""
     while True:
         top, modules = make_program()
         text = text_of(shuffled(modules))
         if LINES[0] <= text.count("\n") <= LINES[1] and instances_in(top) <= MOST_INSTANCES:
+            return top, modules, text
+
+
+def judged():
+    """A program, its text, its run, and the departures of Icarus in it. One with a race is told, and another is made: some few have one."""
+    while True:
+        top, modules, text = fitting()
+        run = run_of(top)
+        others = [run_of(top, random.Random(seed)) for seed in range(1, ORDERS)]
+        if all(run == other for other in others):
             break
-    run = run_of(top)
-    for seed in range(1, ORDERS):
-        other = run_of(top, random.Random(seed))
-        assert run == other, f"a race:\n{text}" + "\n".join(changed(run, other))
+        print("passed over, since it has a race: " + "; ".join(difference for other in others for difference in changed(run, other)), file=sys.stderr)
     assert run.until % 10 == 2, f"at another time:\n{text}"
     told = shown_by_standard(top, run.until - 1, ())
     assert told == (run.values, not run.is_finished), f"the values change after what is shown:\n{text}"
