@@ -5,6 +5,7 @@
 set -eu
 top=$(cd "$(dirname "$0")/.." && pwd)
 . "$top/bench/common.sh"
+[ -x "$program" ] || { echo "$program is not there: rt run in crates/vp_served builds it" >&2; exit 1; }
 cc -O2 -pthread -o "$work/client" "$top/bench/server/client.c"
 echo '{"users":[{"name":"ann","token":"t1","open":"list+read+watch+put+race","run":true}]}' > "$work/policy.json"
 
@@ -100,7 +101,7 @@ seconds=10
 asked=$(trips 20161 1 "$opening" '{"op":"time"}' | awk '{printf "%d", $1 * 10}')
 last=$(resident)
 echo "memory: $first kB before, $last kB after $asked requests"
-echo "$first $last $asked" | awk '{printf "bytes an entry, with its receipt: %.0f\n", ($2 - $1) * 1024 / $3}'
+echo "$first $last $asked" | awk '{printf "bytes an entry: %.0f\n", ($2 - $1) * 1024 / $3}'
 end
 
 # Memory by connections, one after another: of 1,000 that only end, and of 1,000 that open a session and close it; each thousand three times.
