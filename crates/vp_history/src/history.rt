@@ -52,7 +52,8 @@ impl<E> History<E> {
 
     /// Adds the entry that a value stands for.
     pub fn push<X, M: Names<X, E>>(&mut self, _about: &X)
-        ensures { (self.new.name ≡ self.old.name) × (self.new.entries ≡ self.old.entries ++ M.entry _about.now ∷ []) }
+        ensures { (self.new.name ≡ self.old.name)
+            × (self.new.entries ≡ self.old.entries ++ M.entry _about.now ∷ []) }
     {}
 
     /// Goes on to the entries that a value shows, of which those of the history are the first.
@@ -63,7 +64,8 @@ impl<E> History<E> {
 
     /// The history as it is now.
     pub fn front(&mut self) -> Front<E>
-        ensures { (self.new ≡ self.old) × (result.name ≡ self.old.name) × (result.entries ≡ self.old.entries) }
+        ensures { (self.new ≡ self.old) × (result.name ≡ self.old.name)
+            × (result.entries ≡ self.old.entries) }
     {
         Front {
             marker: PhantomData,

@@ -46,7 +46,7 @@ get_front (x ∷ xs) ys zero within = refl
 get_front (x ∷ xs) ys (suc k) within = get_front xs ys k (omega arith)
 
 -- a log with one entry more
-indexes_more : (log : List Entry) (e : Entry) (id : SessionId) → entry_indexes (log ++ e ∷ []) id ≡ entry_indexes log id ++ cond (is_own id e) (length log ∷ []) []
+pub indexes_more : (log : List Entry) (e : Entry) (id : SessionId) → entry_indexes (log ++ e ∷ []) id ≡ entry_indexes log id ++ cond (is_own id e) (length log ∷ []) []
 indexes_more log e id =
     let n = length log in
     let last : is_own_at (log ++ e ∷ []) id n ≡ is_own id e = ap (λ o. option_map_or (is_own id) o false) (get_last log e) in

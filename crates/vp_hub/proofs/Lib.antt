@@ -1,8 +1,14 @@
 pub mod Lists
+pub mod Rows
+pub mod Sums
 pub mod Sublists
 pub mod Explaining
 pub mod Calling
 pub mod Receiving
 pub mod Closings
+pub mod Opened
+pub mod Passes
+pub mod Desks
+pub mod Whole
 pub mod Crossing
 pub mod ServerCrossing

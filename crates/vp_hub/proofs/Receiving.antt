@@ -10,7 +10,7 @@ use Rattle.vp_world.specs.History.{IsLegal, answered_by, entry_of, state_after}
 use Rattle.vp_world.specs.Worlds.{WorldLog, Opening}
 use Rattle.vp_hub.specs.declared.error.HubError.{HubError}
 use Rattle.vp_hub.specs.Calls.{Passed, after_call, event_of}
-use Rattle.vp_hub.specs.Desks.{Calls, Desked, IsMade, with_pass}
+use Rattle.vp_hub.specs.Desks.{Calls, Desked, IsMade, WithPass}
 use Rattle.vp_hub.specs.Hubs.{IsAnswered, IsOpened, IsReceived}
 
 -- a call that is made is received
@@ -39,11 +39,11 @@ answered opening d next p q c (Ok a) calls legal = record {
 answered opening d next p q c (Err e) calls legal = record { made = tt; unchanged = calls.unchanged.1 }
 
 -- what an opening gives
-pub opened : (opening : Opening) (d next : Desked) (p : Passed) (user token : List ℕ) → with_pass d (event.Open user token) next → answered_by d.world (event.Open user token) ≡ reply.Opened p.session → p.indexes ≡ length d.world.log ∷ [] → p.seen ≡ next.world.log → (p.amount ≡ 1) × (p.parts ≡ 1) → IsLegal opening [] next.world.log → IsOpened opening user token p
+pub opened : (opening : Opening) (d next : Desked) (p : Passed) (user token : List ℕ) → WithPass d (event.Open user token) p.session next → answered_by d.world (event.Open user token) ≡ reply.Opened p.session → p.indexes ≡ length d.world.log ∷ [] → p.seen ≡ next.world.log → (p.amount ≡ 1) × (p.parts ≡ 1) → IsLegal opening [] next.world.log → IsOpened opening user token p
 opened opening d next p user token desk told indexes sees share legal =
     let w = d.world in
     let e : Entry = entry_of w.opening (state_after w.opening w.log) (event.Open user token) in
-    let added : next.world.log ≡ w.log ++ e ∷ [] = ap (λ (x : WorldLog). x.log) desk.0 in
+    let added : next.world.log ≡ w.log ++ e ∷ [] = ap (λ (x : WorldLog). x.log) desk.world in
     record {
       before = w.log;
       entry = e;

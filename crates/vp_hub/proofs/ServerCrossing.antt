@@ -7,10 +7,9 @@ use Rattle.std.specs.declared.sync.ledger.Ledger as ledger
 use Rattle.vp_hub.proofs.Crossing.{hub_sync}
 use Rattle.vp_hub.specs.declared.opens.NamesOpening as opens
 use Rattle.vp_hub.specs.contracts.service.Service as Service
-use Rattle.vp_hub.proofs.passes.Passes.TheSendSync as passes
 use Rattle.vp_hub.proofs.settings.Settings.TheSendSync as settings
 
 module _ (L : RattleType) (o : opens.Ghosts L.Denot) (l : ledger.Ghosts L.Denot) (a : NamedLft) (G : RattleType) where
   -- what is shared may be shared where the gate may
   pub service_sync : IsSync G → IsSync (Service.the_row a L G o l)
-  service_sync s = search (hub_sync, passes.the_field_send, settings.the_field_sync, sendable, crosses) depth 60 fits 5000
+  service_sync s = search (hub_sync, settings.the_field_sync, sendable, crosses) depth 60 fits 5000

@@ -1,8 +1,10 @@
 -- What stands behind the lock of a hub.
-use Rattle.std.specs.Prelude.{◌≡◌, ◌<◌, ℕ, ◌+◌, IfErr, IfOk, OnErr, OnOk, length, List, Option, None, option_map, Result}
+use Rattle.std.specs.Prelude.{◌≡◌, ◌≢◌, ◌<◌, ℕ, ◌+◌, ◌++◌, ◌∷◌, [], All, AllPairs, IfErr, IfOk, OnErr, OnOk, length, List, Option, None, Some, option_map, Result, slice_get, sum_by}
+use Rattle.std.specs.List.{remove}
 use mathlib.Core.List.{IsPrefix}
 use Rattle.vp_answer.specs.declared.reply.Reply.{Reply}
 use Rattle.vp_answer.specs.declared.request.Call.{Call}
+use Rattle.vp_answer.specs.declared.request.SessionId.{SessionId}
 use Rattle.vp_text.specs.Refusals.{Explains}
 use Rattle.vp_world.specs.declared.event.Event.{Event}
 use Rattle.vp_world.specs.declared.event.Event.TheVariants as event
@@ -12,21 +14,37 @@ use Rattle.vp_world.specs.History.{answered_by, refused_by, with_entry}
 use Rattle.vp_world.specs.Worlds.{WorldLog, Opening}
 use Rattle.vp_hub.specs.declared.error.HubError.{HubError}
 use Rattle.vp_hub.specs.declared.error.HubError.TheVariants as hub_error
-use Rattle.vp_hub.specs.Calls.{Passed, after_call, event_of, session_entries}
+use Rattle.vp_hub.specs.Calls.{IsOpenedIn, Keeps, Passed, after_call, event_of, session_entries}
 
--- a desk: its world, the total of its ledger, and the parts of it that are left for passes to come
+-- a desk: its world, the total of its ledger, the parts of it that are left for passes to come, the sessions whose passes are out, and the
+-- passes that were handed back
 pub record Desked : Type 0 where
   pub world : WorldLog
   pub total : ℕ
   pub parts : ℕ
+  pub passes_out : List SessionId
+  pub handed_back : List Passed
 
--- what every desk keeps: its world began as the opening says, the ledger's total is the number of entries of sessions, and a part is left
--- for each entry that the log may still get, and one more
-pub record IsDesk (opening : Opening) (world : WorldLog) (total parts amount : ℕ) : Type 0 where
-  pub opened : world.opening ≡ opening
-  pub counted : total ≡ session_entries world.log
-  pub room : opening.limits.log < parts + length world.log
-  pub none : amount ≡ 0
+-- what every desk keeps: its world began as the opening says, the ledger's total is the number of entries of sessions, a part is left for
+-- each entry that the log may still get, and one more, and each pass that is out has one of all parts; the calls of the passes that were
+-- handed back are the amount of the desk's share
+pub record IsDesk (opening : Opening) (all : ℕ) (d : Desked) (amount : ℕ) : Type 0 where
+  pub opened : d.world.opening ≡ opening
+  pub counted : d.total ≡ session_entries d.world.log
+  pub room : opening.limits.log < d.parts + length d.world.log
+  pub parts : d.parts + length d.passes_out ≡ all
+  pub sum : amount ≡ sum_by (λ p. length p.indexes) d.handed_back
+
+-- whose passes are out, and which were handed back: their sessions were opened in the log, no two are of one session, and what was handed
+-- back are passes, of which the log goes on from what they have seen
+pub record KeepsPasses (log : List Entry) (out : List SessionId) (back : List Passed) : Type 0 where
+  pub out_opened : All (IsOpenedIn log) out
+  pub back_opened : All (λ p. IsOpenedIn log p.session) back
+  pub kept : All Keeps back
+  pub seen : All (λ p. IsPrefix p.seen log) back
+  pub out_apart : AllPairs (λ s t. s ≢ t) out
+  pub back_apart : AllPairs (λ p q. p.session ≢ q.session) back
+  pub apart : All (λ s. All (λ p. p.session ≢ s) back) out
 
 -- and its history has the hub's name, and the log's entries
 pub record IsLogOf (history : ℕ) (world : WorldLog) (name : ℕ) (entries : List Entry) : Type 0 where
@@ -48,9 +66,23 @@ with_event d e = record d { world = with_entry d.world e }
 abbrev pub with_call : Desked → Event → Desked
 with_call d e = record d { world = with_entry d.world e; total = d.total + 1 }
 
--- a desk with the entry of an opening more, which is counted; its pass has a part
-abbrev pub with_pass : Desked → Event → Desked → Type 0
-with_pass d e next = (next.world ≡ with_entry d.world e) × (next.total ≡ d.total + 1) × (next.parts + 1 ≡ d.parts)
+-- a desk with the entry of an opening more, which is counted; the pass of the session is out, and has a part
+pub record WithPass (d : Desked) (e : Event) (session : SessionId) (next : Desked) : Type 0 where
+  pub world : next.world ≡ with_entry d.world e
+  pub total : next.total ≡ d.total + 1
+  pub parts : next.parts + 1 ≡ d.parts
+  pub passes_out : next.passes_out ≡ d.passes_out ++ session ∷ []
+  pub handed_back : next.handed_back ≡ d.handed_back
+
+-- a desk to which a pass was handed back that was out
+pub record WithPassBack (d : Desked) (p : Passed) (next : Desked) : Type 0 where
+  pub place : ℕ
+  pub out : slice_get d.passes_out place ≡ Some p.session
+  pub desk : next ≡ record d {
+    parts = d.parts + p.parts;
+    passes_out = remove d.passes_out place;
+    handed_back = d.handed_back ++ p ∷ [];
+  }
 
 -- why a desk's world refuses an event, if it does
 abbrev pub refusal_of : Desked → Event → Option HubError

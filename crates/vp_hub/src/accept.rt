@@ -24,15 +24,11 @@ fn accept<
     if service.connections.load(Ordering::SeqCst) >= CONNECTION_LIMIT {
         return;
     }
-    if service.passes.lock(rt).expect().is_err() {
-        return;
-    }
     service.connections.fetch_add(1, Ordering::SeqCst);
     if scope
         .spawn(move || serve_connection(rt, service, stream))
         .is_err()
     {
-        service.passes.lock(rt).forget();
         service.connections.fetch_sub(1, Ordering::SeqCst);
     }
 }

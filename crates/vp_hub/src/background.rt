@@ -17,7 +17,8 @@ pub(crate) fn rest<R: Clock>(rt: &R) {
 /// So many events of the simulation happen before it is asked whether the server ends.
 const EVENTS_AT_ONCE: u64 = 256;
 
-/// Lets the simulation run, until the server ends. Where nothing is left to do it rests a millisecond, or until a call wakes it.
+/// Lets the simulation run, until the server ends. Where nothing is left to do it rests for as long as the settings say, or until a call
+/// wakes it.
 pub(crate) fn run_simulation<L: NamesOpening, R: Wait + Clock, G: Gate>(
     rt: &R,
     service: &Service<'_, L, G>,
@@ -30,7 +31,7 @@ pub(crate) fn run_simulation<L: NamesOpening, R: Wait + Clock, G: Gate>(
             Ok(ran) if !ran.idle => {}
             _ => service
                 .simulation
-                .park_timeout(rt, Duration::from_millis(REST)),
+                .park_timeout(rt, service.settings.simulation_rest),
         }
     }
 }

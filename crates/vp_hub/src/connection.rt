@@ -12,17 +12,14 @@ use std::time::Clock;
 use vp_race::Gate;
 use vp_wire::{Counted, session};
 
-/// Serves a connection to its end, and hands the pass of its session back, if one was opened.
+/// Serves a connection to its end, and hands the pass of its session back, if one was opened. That can't be refused, since the pass is out.
 pub(crate) fn serve_connection<L: NamesOpening, R: Wait + Clock, G: Gate>(
     rt: &R,
     service: &Service<'_, L, G>,
     stream: TcpStream,
 ) {
-    match answer(rt, service, &stream) {
-        Some(pass) => {
-            let _kept = service.passes.lock(rt).keep(pass);
-        }
-        None => service.passes.lock(rt).forget(),
+    if let Some(pass) = answer(rt, service, &stream) {
+        let _returned = service.hub.hand_back(rt, pass);
     }
     drop(stream);
     service.connections.fetch_sub(1, Ordering::SeqCst);

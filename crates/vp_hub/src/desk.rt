@@ -1,5 +1,5 @@
-ghost use Rattle.std.specs.Prelude.{◌≡◌, ◌<◌, ◌^◌, ◌+◌, ◌∷◌, [], All, IfErr, IfOk, OnErr, OnOk, None, length, true};
-ghost use Rattle.std.specs.Prelude.{IfSome};
+ghost use Rattle.std.specs.Prelude.{◌≡◌, ◌≢◌, ◌<◌, ◌^◌, ◌+◌, ◌++◌, ◌∷◌, [], All, IfErr, IfOk, OnErr, OnOk, None, Some, length, true};
+ghost use Rattle.std.specs.Prelude.{IfNone, IfSome, slice_get};
 ghost use Rattle.std.specs.Arc.{arc_value};
 ghost use mathlib.Core.List.{IsPrefix};
 ghost use Rattle.vp_answer.specs.declared.reply.Reply.TheVariants as replies;
@@ -8,39 +8,46 @@ ghost use Rattle.vp_world.specs.declared.event.Event.TheVariants as event;
 ghost use Rattle.vp_world.specs.declared.error.WorldError.TheVariants.{NoMemory};
 ghost use Rattle.vp_world.specs.Events.{IsWellFormed};
 ghost use Rattle.vp_world.specs.History.{IsLegal, answered_by, refused_by};
+ghost use Rattle.vp_hub.specs.declared.error.HubError.TheVariants.{Mismatch, Receipt};
 ghost use Rattle.vp_hub.specs.Calls.{is_of_session, session_entries};
-ghost use Rattle.vp_hub.specs.Desks.{Calls, IsOther, refusal_of, out_of_memory, with_call, with_event, with_pass};
+ghost use Rattle.vp_hub.specs.Closing.{HaveAll, IsClosed};
+ghost use Rattle.vp_hub.specs.Desks.{Calls, IsOther, WithPass, WithPassBack, refusal_of, out_of_memory, with_call, with_event};
 
+use crate::close::Closed;
 use crate::entries::event_of;
 use crate::error::HubError;
 use crate::opens::NamesOpening;
-use crate::pass::{Index, Pass};
+use crate::pass::{AsItIs, HandedBack, Index, Pass};
 use std::alloc::{AllocError, Global};
 use std::marker::Model;
 use std::sync::Arc;
 use std::sync::ledger::{Blank, Book, Share};
-use vp_answer::{Call, Reply};
+use vp_answer::{Call, Reply, SessionId};
 use vp_history::{Front, History, Shows};
 use vp_race::{Finding, Segment, SimError};
 use vp_text::{Shared, Text};
 use vp_world::{Entry, Event, Log, World, WorldError};
 
-/// What stands behind the lock of a hub: a world, and the total of the ledger of its sessions' calls. A contract sees both, and how
-/// many parts of the ledger are left for passes to come.
+/// What stands behind the lock of a hub: a world, the total of the ledger of its sessions' calls, and whose passes are out. A contract sees
+/// these, how many parts of the ledger are left for passes to come, and the passes that were handed back.
 #[derive(Drop)]
 pub struct Desk<L: NamesOpening> {
     alloc: Global,
     world: World,
     /// The number of the log's entries of sessions.
     calls: Book<L>,
-    /// The parts for passes to come.
+    /// The parts for passes to come, and the amounts of those that were handed back.
     rest: Share<L>,
     /// The log, of which passes have seen fronts; for contracts alone.
     history: History<Entry>,
+    /// The sessions whose passes are out.
+    passes_out: Vec<SessionId>,
+    /// The passes that were handed back, for contracts alone.
+    handed_back: History<HandedBack>,
 }
 
 impl<L: NamesOpening> Model for Desk<L> {
-    ghost use Rattle.vp_hub.specs.Desks.{Desked, IsDesk, IsLogOf};
+    ghost use Rattle.vp_hub.specs.Desks.{Desked, IsDesk, IsLogOf, KeepsPasses};
 
     ghost Value = { Desked };
 
@@ -48,10 +55,21 @@ impl<L: NamesOpening> Model for Desk<L> {
       world = d.world;
       total = d.calls.total;
       parts = d.rest.parts;
+      passes_out = d.passes_out.items;
+      handed_back = d.handed_back.entries;
     } };
 
-    ghost invariant = { λ d. IsDesk L.opening d.world d.calls.total d.rest.parts d.rest.amount
-        × IsLogOf L.history d.world d.history.name d.history.entries };
+    ghost invariant = { λ d. record {
+      desk : IsDesk L.opening L.parts (record {
+        world = d.world;
+        total = d.calls.total;
+        parts = d.rest.parts;
+        passes_out = d.passes_out.items;
+        handed_back = d.handed_back.entries;
+      }) d.rest.amount;
+      history : IsLogOf L.history d.world d.history.name d.history.entries;
+      passes : KeepsPasses d.world.log d.passes_out.items d.handed_back.entries;
+    } };
 }
 
 /// A world shows its log.
@@ -61,15 +79,17 @@ impl Shows<World, Entry> for ShownLog {
     ghost entries = { λ world. world.log };
 }
 
-/// Shows that a hub's history goes on from what each of these passes has seen.
-fn compare_all<L: NamesOpening>(history: &mut History<Entry>, passes: &[Pass<L>])
-    requires { history.old.name ≡ L.history }
-    ensures same { history.new ≡ history.old }
-    ensures seen { All (λ p. IsPrefix p.seen history.old.entries) passes.now }
+/// The place of a session among others, if it is there.
+fn place_of(sessions: &[SessionId], session: SessionId) -> Option<usize>
+    ensures found { IfSome result (λ place. slice_get sessions.now place ≡ Some session) }
+    ensures missing { IfNone result (All (λ s. s ≢ session) sessions.now) }
 {
-    for pass in passes {
-        history.compare(&pass.seen);
+    for place in 0..sessions.len() {
+        if sessions[place] == session {
+            return Some(place);
+        }
     }
+    None
 }
 
 impl<L: NamesOpening> Desk<L> {
@@ -87,6 +107,8 @@ impl<L: NamesOpening> Desk<L> {
           world = world;
           total = 0;
           parts = blank.parts;
+          passes_out = [];
+          handed_back = [];
         } }
     {
         let (calls, rest) = blank.open::<L>();
@@ -96,6 +118,8 @@ impl<L: NamesOpening> Desk<L> {
             calls,
             rest,
             history,
+            passes_out: Vec::new(alloc),
+            handed_back: History::new(),
         }
     }
 
@@ -156,7 +180,7 @@ impl<L: NamesOpening> Desk<L> {
     pub fn open(&mut self, user: Text, token: Text) -> Result<Pass<L>, HubError>
         ensures accepted { OnOk result
             (refused_by self.old.world (event.Open user token) ≡ None) }
-        ensures desk { OnOk result (with_pass self.old (event.Open user token) self.new) }
+        ensures desk { IfOk result (λ p. WithPass self.old (event.Open user token) p.session self.new) }
         ensures session { IfOk result (λ p. answered_by self.old.world (event.Open user token)
             ≡ replies.Opened p.session) }
         ensures indexes { IfOk result (λ p. p.indexes ≡ length self.old.world.log ∷ []) }
@@ -166,6 +190,10 @@ impl<L: NamesOpening> Desk<L> {
             (Explains out_of_memory (refusal_of self.old (event.Open user token))) }
         ensures unchanged { OnErr result (self.new ≡ self.old) }
     {
+        if let Err(error) = self.passes_out.reserve(1) {
+            self.world.check_open(user.as_str(), token.as_str())?;
+            return Err(HubError::from(error));
+        }
         let index = self.world.log().len();
         let reply = self.world.apply(Event::Open { user, token })?;
         let Reply::Opened(session) = reply else {
@@ -174,6 +202,7 @@ impl<L: NamesOpening> Desk<L> {
         let mut share = self.rest.split_off(1, 0);
         self.calls.add(&mut share, 1);
         self.history.advance::<World, ShownLog>(&self.world);
+        self.passes_out.push_reserved(session);
         let mut indexes = History::new();
         indexes.push::<usize, Index>(&index);
         Ok(Pass {
@@ -282,23 +311,55 @@ impl<L: NamesOpening> Desk<L> {
 }
 
 impl<L: NamesOpening> Desk<L> {
-    /// Its allocator.
-    pub(crate) fn alloc(&self) -> Global {
-        self.alloc
+    /// Takes a pass back. Refused where its session's pass is not out (1401), which leaves the desk as it was; the pass is lost.
+    pub fn hand_back(&mut self, pass: Pass<L>) -> Result<(), HubError>
+        ensures returned { OnOk result (WithPassBack self.old pass self.new) }
+        ensures refused { IfErr result (λ e. e ≡ Receipt) }
+        ensures missing { OnErr result (All (λ s. s ≢ pass.session) self.old.passes_out) }
+        ensures unchanged { OnErr result (self.new ≡ self.old) }
+    {
+        let Some(place) = place_of(self.passes_out.as_slice(), pass.session) else {
+            return Err(HubError::Receipt);
+        };
+        self.history.compare(&pass.seen);
+        self.passes_out.remove(place);
+        self.handed_back.push::<Pass<L>, AsItIs>(&pass);
+        self.rest.merge(pass.share);
+        Ok(())
     }
 
-    /// Shows that the log goes on from what each of these passes has seen.
-    pub(crate) fn compare(&mut self, passes: &[Pass<L>])
+    /// Shows that the passes that were handed back have all calls of the log, if none is out.
+    fn settle(&mut self)
+        requires { self.old.passes_out ≡ [] }
         ensures same { self.new ≡ self.old }
-        ensures seen { All (λ p. IsPrefix p.seen self.old.world.log) passes.now }
+        ensures passes { HaveAll self.old.world.log self.old.handed_back }
+        ensures legal { IsLegal L.opening [] self.old.world.log }
+        ensures opening { self.old.world.opening ≡ L.opening }
     {
-        compare_all(&mut self.history, passes);
+        // Read, so that the check knows that it is legal.
+        let _log = self.log();
+        self.calls.audit(&mut self.rest);
     }
 
-    /// Its world.
-    pub(crate) fn into_world(self) -> World
-        ensures { result ≡ self.world }
+    /// Ends, with the world and the passes that were handed back. Refused while a pass is out (1402).
+    pub fn close(self) -> Result<Closed, HubError>
+        ensures closed { IfOk result (λ closed. IsClosed L.opening closed) }
+        ensures world { IfOk result (λ closed. closed.world ≡ self.world) }
+        ensures passes { IfOk result (λ closed. closed.passes.entries ≡ self.handed_back) }
+        ensures accepted { OnOk result (self.passes_out ≡ []) }
+        ensures refused { IfErr result (λ e. e ≡ Mismatch) }
+        ensures out { OnErr result (self.passes_out ≢ []) }
     {
-        self.world
+        let mut desk = self;
+        if !desk.passes_out.is_empty() {
+            // Dropped by a call, so that how a desk is dropped is no part of this function's proof.
+            drop(desk);
+            return Err(HubError::Mismatch);
+        }
+        desk.settle();
+        Ok(Closed {
+            world: desk.world,
+            passes: desk.handed_back,
+        })
     }
 }

@@ -10,10 +10,10 @@ use vp_world::WorldError;
 /// Why a call of a hub is refused.
 #[derive(Clone, Copy, Debug, PartialEq, Eq, Error)]
 pub enum HubError {
-    /// A receipt is not at its index in the log; or two name one index (1401).
+    /// A pass is handed back of a session whose pass is not out (1401).
     #[error("receipt")]
     Receipt,
-    /// There are not as many receipts as the log has entries of sessions (1402).
+    /// A hub is closed while a pass is out (1402).
     #[error("mismatch")]
     Mismatch,
     /// The world refuses the event (1403).

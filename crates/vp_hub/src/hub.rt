@@ -1,8 +1,9 @@
-ghost use Rattle.std.specs.Prelude.{◌≡◌, ◌≤◌, ◌<◌, ◌∷◌, [], IfErr, IfOk, IfSome, None, OnErr, OnOk, true, false};
+ghost use Rattle.std.specs.Prelude.{◌≡◌, ◌⊎◌, ◌≤◌, ◌<◌, ◌++◌, ◌∷◌, [], IfErr, IfOk, IfSome, None, OnErr, OnOk, true, false};
 ghost use Rattle.std.specs.Arc.{arc_value};
 ghost use Rattle.std.specs.List.{All};
 ghost use Rattle.vp_answer.specs.declared.reply.Reply.TheVariants as replies;
-ghost use Rattle.vp_hub.specs.Closing.{IsClosed};
+ghost use Rattle.vp_hub.specs.declared.error.HubError.TheVariants.{Mismatch, Receipt};
+ghost use Rattle.vp_hub.specs.Closing.{IsClosed, IsEnd};
 ghost use Rattle.vp_hub.specs.Hubs.{IsAnswered, IsOpened};
 
 use crate::close::Closed;
@@ -81,6 +82,21 @@ fn run_events<L: NamesOpening>(
     })
 }
 
+/// Takes passes back, one after another, until one is refused.
+fn hand_back_all<L: NamesOpening>(
+    desk: &mut Desk<L>,
+    passes: VecDeque<Pass<L>>,
+) -> Result<(), HubError>
+    ensures returned { OnOk result (desk.new.handed_back ≡ desk.old.handed_back ++ passes.items) }
+    ensures refused { IfErr result (λ e. e ≡ Receipt) }
+{
+    let mut passes = passes;
+    while let Some(pass) = passes.pop_front() {
+        desk.hand_back(pass)?;
+    }
+    Ok(())
+}
+
 /// A world that threads share: a desk behind a lock. Whenever the lock is free, the desk's log is legal for the world that L names,
 /// and the ledger's total is the number of its entries of sessions.
 #[derive(Drop)]
@@ -107,6 +123,13 @@ impl<L: NamesOpening> Hub<L> {
         let desk = self.desk.lock(rt);
         self.waiting.fetch_sub(1, Ordering::SeqCst);
         desk
+    }
+
+    /// Takes a pass back, as `Desk::hand_back` does.
+    pub fn hand_back<R: Wait>(&self, rt: &R, pass: Pass<L>) -> Result<(), HubError>
+        ensures { IfErr result (λ e. e ≡ Receipt) }
+    {
+        self.desk(rt).hand_back(pass)
     }
 
     /// Opens a session for a user, and gives its pass; else what `Desk::open` is refused by.
@@ -233,12 +256,18 @@ impl<L: NamesOpening> Hub<L> {
         Ok(booked)
     }
 
-    /// Ends with the passes that were handed back: the log, and for each pass the indexes of its calls, in order. Refused where two passes
-    /// are of one session, or the log does not have as many entries of a session as its pass has made calls (1401); where the passes have
-    /// not made as many as the log has entries of sessions (1402); or when out of memory (1403: 1307).
+    /// Takes these passes back, and ends. Refused where the pass of one's session is not out (1401), then while another pass is out (1402).
     pub fn close(self, passes: Vec<Pass<L>>) -> Result<Closed, HubError>
-        ensures { IfOk result (λ closed. IsClosed L.opening passes.items closed) }
+        ensures closed { IfOk result (λ closed. IsClosed L.opening closed) }
+        ensures passes { IfOk result (λ closed. IsEnd passes.items closed.passes.entries) }
+        ensures refused { IfErr result (λ e. (e ≡ Receipt) ⊎ (e ≡ Mismatch)) }
     {
-        self.desk.into_inner().close(passes.as_slice())
+        let mut desk = self.desk.into_inner();
+        if let Err(error) = hand_back_all(&mut desk, VecDeque::from(passes)) {
+            // Dropped by a call, so that how a desk is dropped is no part of this function's proof.
+            drop(desk);
+            return Err(error);
+        }
+        desk.close()
     }
 }

@@ -15,8 +15,27 @@ impl Names<usize, usize> for Index {
     ghost entry = { λ index. index };
 }
 
-/// A session of a hub. A contract sees its name, the indexes of its calls in order, of which the first is of its opening, the log as it was
-/// after the last of them, and its share of the ledger, whose amount is their number. So many calls as it has made, it takes no memory.
+/// A pass that was handed back, for contracts alone: of a history of passes.
+pub struct HandedBack;
+
+impl Model for HandedBack {
+    ghost use Rattle.vp_hub.specs.Calls.{Passed, no_pass};
+
+    ghost Value = { Passed };
+
+    ghost view = { λ _. no_pass };
+}
+
+/// A pass is handed back as it is.
+pub(crate) struct AsItIs;
+
+impl<L: NamesOpening> Names<Pass<L>, HandedBack> for AsItIs {
+    ghost entry = { λ pass. pass };
+}
+
+/// A session of a hub, and the right to make its calls. A contract sees the session, the indexes of its calls in order, of which the first is
+/// of its opening, the log as it was after the last of them, and its share of the ledger, whose amount is their number. However many calls
+/// it makes, it takes no memory for them.
 #[derive(Drop)]
 pub struct Pass<L: NamesOpening> {
     pub(crate) session: SessionId,

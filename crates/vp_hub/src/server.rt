@@ -1,5 +1,4 @@
-ghost use Rattle.std.specs.Prelude.{◌≡◌, ◌+◌, ◌<◌, ◌^◌, List, [], IfOk};
-ghost use Rattle.vp_hub.specs.Calls.{Passed};
+ghost use Rattle.std.specs.Prelude.{◌≡◌, ◌+◌, ◌<◌, ◌^◌, [], IfOk};
 ghost use Rattle.vp_hub.specs.Closing.{IsClosed};
 
 use crate::accept::{accept_all, await_all};
@@ -58,12 +57,13 @@ fn run<'a, L: NamesOpening + Send + Sync, R: Threads + Wait + Clock + Sync, G: G
             await_all(rt, service);
         }
         service.ending.store(true, Ordering::SeqCst);
+        service.simulation.unpark();
         started
     })
 }
 
 /// Serves a world in which nothing has happened to the connections of a listener, and gives what is left of it; or reports that a thread
-/// can't be started (1606), or why the hub can't be closed (1401 to 1403).
+/// can't be started (1606), or why the hub can't be closed (1402).
 fn serve_world<L: NamesOpening + Send + Sync, R: Threads + Wait + Clock + Sync, G: Gate + Sync>(
     rt: &R,
     alloc: Global,
@@ -81,23 +81,21 @@ fn serve_world<L: NamesOpening + Send + Sync, R: Threads + Wait + Clock + Sync, 
     requires empty { world.log ≡ [] }
     requires history { history.name ≡ L.history }
     requires begins { history.entries ≡ [] }
-    ensures closed { IfOk result
-        (λ closed. (passes : List Passed) × IsClosed world.opening passes closed) }
+    ensures closed { IfOk result (λ closed. IsClosed world.opening closed) }
 {
     let hub = Hub::new(alloc, Desk::<L>::new(alloc, blank, history, world));
     let service = Service::new(alloc, settings, hub, gate);
     if !run(rt, &service, listener) {
         return Err(ServerError::NoThread);
     }
-    let passes = service.passes.into_inner();
-    let closed = service.hub.close(passes.ended)?;
+    let closed = service.hub.close(Vec::new(alloc))?;
     Ok(closed)
 }
 
 /// Serves a world in which nothing has happened to whoever connects to a listener: one thread for each connection, one that lets the
 /// simulation run, and workers that search for races. It ends after as many connections as the settings say, and gives what is left of
-/// the world, with its log. Refused where the simulation's thread or a worker's can't be started (1606), or where the hub can't be
-/// closed (1401 to 1403).
+/// the world, with its log. Refused where the simulation's thread or a worker's can't be started (1606), or where a pass was
+/// not handed back (1402).
 pub fn serve<R, G>(
     rt: &R,
     alloc: Global,
@@ -113,8 +111,7 @@ where
     requires limits { world.opening.limits ≡ limits }
     requires room { limits.log < 2 ^ 32 }
     requires empty { world.log ≡ [] }
-    ensures closed { IfOk result
-        (λ closed. (passes : List Passed) × IsClosed world.opening passes closed) }
+    ensures closed { IfOk result (λ closed. IsClosed world.opening closed) }
 {
     let blank = Blank::new((limits.log as u64) + 1);
     let history = History::new();

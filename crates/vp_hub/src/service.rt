@@ -1,9 +1,7 @@
 use crate::hub::Hub;
 use crate::opens::NamesOpening;
-use crate::passes::Passes;
 use crate::settings::Settings;
 use std::alloc::Global;
-use std::sync::Mutex;
 use std::sync::atomic::{AtomicBool, AtomicUsize};
 use std::thread::Parker;
 
@@ -15,7 +13,6 @@ pub(crate) struct Service<'a, L: NamesOpening, G> {
     pub(crate) hub: Hub<L>,
     /// Asked once before each call of the hub, and by each search.
     pub(crate) gate: &'a G,
-    pub(crate) passes: Mutex<Passes<L>>,
     /// So many connections are open.
     pub(crate) connections: AtomicUsize,
     /// The simulation's thread rests on it while nothing is left to do.
@@ -37,7 +34,6 @@ impl<'a, L: NamesOpening, G> Service<'a, L, G> {
             settings,
             hub,
             gate,
-            passes: Mutex::new(Passes::new(alloc)),
             connections: AtomicUsize::new(0),
             simulation: Parker::new(),
             ending: AtomicBool::new(false),

@@ -16,16 +16,20 @@ pub struct Settings {
     pub reading_silence: Duration,
     /// How long a client may take to read all of a reply.
     pub reading_time: Duration,
+    /// How long the simulation's thread rests at most, where nothing is left to do and no call wakes it.
+    pub simulation_rest: Duration,
 }
 
 impl Settings {
-    /// A server whose clients have a minute to open a session, ten seconds to read something of a reply, and a minute to read all of it.
+    /// A server whose clients have a minute to open a session, ten seconds to read something of a reply, and a minute to read all of it, and
+    /// whose simulation rests a millisecond.
     pub fn new(workers: u32, sessions: u32) -> Settings
         ensures workers { result.workers ≡ workers }
         ensures sessions { result.sessions ≡ sessions }
         ensures opening { as_nanos result.opening_time ≡ 60 * 1_000_000_000 }
         ensures silence { as_nanos result.reading_silence ≡ 10 * 1_000_000_000 }
         ensures reading { as_nanos result.reading_time ≡ 60 * 1_000_000_000 }
+        ensures rest { as_nanos result.simulation_rest ≡ 1_000_000 }
     {
         Settings {
             workers,
@@ -33,6 +37,7 @@ impl Settings {
             opening_time: Duration::from_secs(60),
             reading_silence: Duration::from_secs(10),
             reading_time: Duration::from_secs(60),
+            simulation_rest: Duration::from_millis(1),
         }
     }
 }

@@ -139,6 +139,38 @@ fn users_share_a_simulation(rt: HostRuntime) {
     assert!(rt; told.is_ok());
 }
 
+/// A client lets the design run, after the simulation's thread has found nothing to do.
+fn run_after_rest<R: Net<Stream = TcpStream> + Clock>(rt: &R, alloc: Global, port: u16) -> bool {
+    let Some(stream) = connect(rt, port) else {
+        return false;
+    };
+    if !is_told(alloc, &stream, OPEN, OK) {
+        return false;
+    }
+    thread::sleep(rt, Duration::from_millis(200));
+    is_told(alloc, &stream, "{\"op\":\"run\",\"until\":10}\n", OK) && has_come(rt, alloc, &stream)
+}
+
+#[test]
+fn a_run_wakes_the_simulation(rt: HostRuntime) {
+    let alloc = rt.alloc();
+    let settings = Settings {
+        simulation_rest: Duration::from_secs(600),
+        ..Settings::new(0, 1)
+    };
+    let server = Server::new(24_143, settings);
+    let (told, right) = beside(
+        &rt,
+        alloc,
+        CLOCKED,
+        server,
+        &OpenGate,
+        || run_after_rest(&rt, alloc, 24_143),
+    );
+    assert!(rt; right, "it does not sleep on");
+    assert!(rt; told.is_ok());
+}
+
 /// Hundred connections one after another, each with a session.
 fn come_and_go<R: Net<Stream = TcpStream> + Clock>(rt: &R, alloc: Global, port: u16) -> bool {
     for _ in 0..100u32 {

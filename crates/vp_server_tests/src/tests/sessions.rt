@@ -15,6 +15,7 @@ use vp_answer::{Query, Reply, SessionId};
 use vp_bits::Bits;
 use vp_elab::ObjectId;
 use vp_hub::{Closed, Desk, History, Hub, NamesOpening, Pass};
+use vp_text::Sequence;
 use vp_vpi::PutValue;
 use vp_world::{Entry, Log, LoggedEvent, World};
 
@@ -254,28 +255,34 @@ fn are_own_indexes(log: &Log, session: SessionId, indexes: &[usize]) -> bool {
     count == indexes.len()
 }
 
-/// What a session read is what `c` was given, and its receipts are of its entries; how many it read, and how many entries it has.
-fn counts(ended: &Ended, number: usize) -> Option<(usize, usize)> {
+/// What a session read is what `c` was given, and these receipts are of its entries; how many it read, and how many entries it has.
+fn counts(ended: &Ended, receipts: &[Sequence<usize>], number: usize) -> Option<(usize, usize)> {
     let log = ended.closed.log();
     let session = *ended.sessions.get(number)?;
     let values = ended.values.get(number)?.as_slice();
-    let indexes = ended.closed.receipts.as_slice().get(number)?.as_slice();
+    let indexes = receipts.get(number)?.as_slice();
     if !are_those_given(log, session, values) || !are_own_indexes(log, session, indexes) {
         return None;
     }
     Some((values.len(), indexes.len()))
 }
 
-/// The same of both sessions, and whether the design changed `c` beside them.
-fn all_counts(ended: &Ended) -> (Option<(usize, usize)>, Option<(usize, usize)>, bool) {
+/// The same of both sessions, in the order in which they were opened, and whether the design changed `c` beside them.
+fn all_counts(alloc: Global, ended: &Ended) -> Option<([(usize, usize); 2], bool)> {
     let is_changed = is_changed_by_design(ended.closed.log());
-    (counts(ended, 0), counts(ended, 1), is_changed)
+    let receipts = ended.closed.receipts(alloc).ok()?;
+    let receipts = receipts.as_slice();
+    if receipts.len() != 2 {
+        return None;
+    }
+    let counts = [counts(ended, receipts, 0)?, counts(ended, receipts, 1)?];
+    Some((counts, is_changed))
 }
 
 #[test]
 fn two_sessions(rt: HostRuntime) {
     let ended = end_anew(&rt, rt.alloc()).expect(&rt, "a hub");
-    let counts = all_counts(&ended);
+    let counts = all_counts(rt.alloc(), &ended);
     drop(ended);
-    assert_eq!(rt; counts, (Some((100, 203)), Some((100, 202)), true));
+    assert_eq!(rt; counts, Some(([(100, 203), (100, 202)], true)));
 }

@@ -7,6 +7,6 @@ use Rattle.vp_load.proofs.serving.serve_clients.Goals as goal
 pub returns : goal.returns
 returns g c =
     let closed = c.in_ok-closed.closed in
-    let is = (c.in_ok-closed.ensures {u = tt}).closed.1 in
+    let is = (c.in_ok-closed.ensures {u = tt}).closed in
     let opening = c.in-Some.world.opening in
     subst (λ (d : Elaborated). AreWellFormed d closed.world.log) (c.in-Some.ensures {u = tt}).design (formed_all opening [] closed.world.log is.legal)

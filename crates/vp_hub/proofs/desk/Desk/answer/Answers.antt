@@ -1,4 +1,4 @@
-use Rattle.std.proofs.Common.{rules, ◌≡◌, ◌<◌, ◌+◌, ◌∙◌, ◌++◌, ◌∷◌, [], ℕ, Err, List, None, Result, ap, arith, length, length-append, subst, sym}
+use Rattle.std.proofs.Common.{rules, ◌≡◌, ◌+◌, ◌∙◌, ◌++◌, ◌∷◌, [], ℕ, Err, List, None, Result, ap, arith, length, length-append, subst, sym}
 use mathlib.Core.List.{IsPrefix}
 use Rattle.vp_answer.specs.declared.reply.Reply.{Reply}
 use Rattle.vp_text.specs.Refusals.{Explains}
@@ -56,7 +56,7 @@ invariant_of-pass-2 g c =
         own = subst (λ (x : List ℕ × List Entry). IsSublist x.0 (entry_indexes x.1 old.session)) (λ i. (sym indexes i, sym sees i)) own;
         counted = yes.amount ∙ ap (λ (k : ℕ). k + 1) kept.counted ∙ sym more;
         some = omega (arith, yes.amount);
-        backed = subst (λ (k : ℕ). 0 < k) (sym yes.parts) kept.backed;
+        one = yes.parts ∙ kept.one;
       };
       many = ap (λ (k : ℕ). k + 1) c.pass.invariant.many ∙ sym more;
       named = yes.seen.0;

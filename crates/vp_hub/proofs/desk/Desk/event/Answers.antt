@@ -1,10 +1,14 @@
-use Rattle.std.proofs.Common.{rules, ◌≡◌, Err, IfErr, subst, sym}
+use Rattle.std.proofs.Common.{rules, ◌≡◌, ◌∙◌, [], ◌∷◌, ℕ, Err, IfErr, ap, arith, cond, refl, subst, sym}
 use Rattle.vp_text.specs.Refusals.{Explains}
 use Rattle.vp_world.specs.declared.error.WorldError.TheVariants.{NoMemory}
-use Rattle.vp_world.specs.History.{refused_by}
+use Rattle.vp_world.specs.Entries.{Entry}
+use Rattle.vp_world.specs.History.{entry_of, refused_by, state_after}
+use Rattle.vp_world.specs.Worlds.{WorldLog}
 use Rattle.vp_hub.specs.declared.error.HubError.TheVariants.{World}
-use Rattle.vp_hub.specs.Desks.{refusal_of, out_of_memory}
+use Rattle.vp_hub.specs.Desks.{Desked, refusal_of, out_of_memory}
+use Rattle.vp_hub.proofs.Desks.{desk_on, other_event, same_passes}
 use Rattle.vp_hub.proofs.Explaining.{explains}
+use Rattle.vp_hub.proofs.Passes.{passes_on}
 use Rattle.vp_hub.proofs.desk.Desk.event.Goals as goal
 
 pub returns-in_err-reply-clause-refused : goal.returns-in_err-reply-clause-refused
@@ -15,3 +19,19 @@ returns-in_err-reply-clause-refused g c =
     let is : c.from_residual.result ≡ Err (World e) = search rules in
     let why : Explains NoMemory (refused_by w happens) e = search rules in
     subst (λ r. IfErr r (Explains out_of_memory (refusal_of c.args.self.now happens))) (sym is) (explains (refused_by w happens) e why)
+
+pub invariant_of-self-2 : goal.invariant_of-self-2
+invariant_of-self-2 g c =
+    let old = c.self.inside in
+    let w = old.world in
+    let x : Entry = entry_of w.opening (state_after w.opening w.log) c.args.event in
+    let logged = (c.in_ok-reply.ensures {u = tt}).applied.logged in
+    let d : Desked = record { world = w; total = old.calls.total; parts = old.rest.parts; passes_out = old.passes_out.items; handed_back = old.handed_back.entries } in
+    let next : Desked = record { world = c.apply.new.self; total = old.calls.total; parts = old.rest.parts; passes_out = old.passes_out.items; handed_back = old.handed_back.entries } in
+    let none = ap {B = ℕ} (λ b. cond b 1 0) (other_event c.args.event c.requires.other) in
+    record {
+      desk = desk_on _ _ old.rest.amount d next x c.self.invariant.desk logged (omega (arith, none)) refl refl refl;
+      history = record { named = c.advance.ensures.0 ∙ c.self.invariant.history.named; same = c.advance.ensures.1 };
+      passes = same_passes _ c.apply.new.self.log old.passes_out.items old.passes_out.items old.handed_back.entries old.handed_back.entries
+          (passes_on w.log (x ∷ []) old.passes_out.items old.handed_back.entries c.self.invariant.passes) (ap (λ (v : WorldLog). v.log) logged) refl refl;
+    }
