@@ -1,7 +1,8 @@
 """Out of memory at each growth in turn: a shim over the C library's allocator (tools/refuse-growth.c) refuses the first growth of a run, then the second,
 and so on. Each run ends by itself, and what it prints is that of a run without a refusal up to a fault of out of memory or a request that is answered
 `no memory`. Where the simulation or a search lacks memory it goes on before the next request, so the values and the races after a run are as ever. A
-request that is answered `no memory` was not done: sent again it is answered as ever.
+request that is answered `no memory` was not done: sent again it is answered as ever. So it is with a server, over a fixed dialogue: it ends, and its log
+has what was answered.
 python3 -m unittest, in this folder, over the program of test_loddrume. It wants the machine's C compiler, and is skipped where there is none.
 """
 
@@ -10,6 +11,7 @@ import json
 import os
 import re
 import shutil
+import socket
 import subprocess
 import sys
 import tempfile
@@ -19,13 +21,29 @@ from pathlib import Path
 from typing import List, Optional, Sequence, Tuple
 
 from test_faults import envelopes, policy
-from test_loddrume import PROGRAM, RACE, TOP
+from test_loddrume import PROGRAM, RACE, TOP, needs_serve
 
 # The numbers of out of memory, by docs/FORMATS.md.
 OUT_OF_MEMORY = {206, 310, 404, 510, 604, 905, 1307, 1403, 1507, 1607}
 REFUSED = '{"error":"no memory"}'
 MISSING = "there was no memory for a line or to let the simulation run on"
 FAULT = re.compile(r"fault (\d+) line 0")
+NO_THREAD = "fault 1606 line 0"
+# What a server is asked.
+DIALOGUE = [
+    {"op": "open", "user": "u0", "token": "t"},
+    {"op": "handle", "name": "top.a"},
+    {"op": "iterate", "kind": "module"},
+    {"op": "watch", "h": 1},
+    {"op": "put", "h": 1, "value": "1"},
+    {"op": "value", "h": 1},
+    {"op": "poll"},
+    {"op": "races"},
+    {"op": "time"},
+    {"op": "close"},
+]
+# Each server has a port of its own, from this one on.
+FIRST_PORT = 26_000
 # So many runs go on at once.
 BESIDE = os.cpu_count() or 1
 
@@ -37,8 +55,8 @@ def ends_by_memory(line: str) -> bool:
 
 
 @unittest.skipUnless(shutil.which("cc"), "there is no C compiler")
-class Growths(unittest.TestCase):
-    """One growth of a run is refused."""
+class Refusing(unittest.TestCase):
+    """A folder with the shim."""
 
     folder: Path
     shim: Path
@@ -50,6 +68,16 @@ class Growths(unittest.TestCase):
         cls.folder = Path(folder.name)
         cls.shim = cls.folder / "refuse-growth.so"
         subprocess.run(["cc", "-shared", "-fPIC", "-O2", "-o", cls.shim, TOP / "tools" / "refuse-growth.c"], check=True)
+
+    def write(self, design: str, rules: str) -> Tuple[str, str]:
+        """Files of a design and a policy, by their names."""
+        (self.folder / "design.v").write_text(design)
+        (self.folder / "policy.json").write_text(rules)
+        return "design.v", "policy.json"
+
+
+class Growths(Refusing):
+    """One growth of a run is refused."""
 
     def run_refusing(self, growth: int, words: Sequence[str], lines: str) -> "subprocess.CompletedProcess[str]":
         """A run over these lines of which a growth is refused; of 0 none is."""
@@ -155,14 +183,8 @@ class Growths(unittest.TestCase):
         fewer = run.stdout.startswith("same ") and int(run.stdout[5:]) <= int(wanted[5:]) and MISSING in run.stderr
         return None if run.returncode == 0 and (run.stdout == wanted or fewer) else f"growth {growth}: {run.stdout!r} {run.stderr!r}"
 
-    def write(self, design: str, rules: str) -> Tuple[str, str]:
-        """Files of a design and a policy, by their names."""
-        (self.folder / "design.v").write_text(design)
-        (self.folder / "policy.json").write_text(rules)
-        return "design.v", "policy.json"
-
     def test_64_users(self) -> None:
-        requests = [{"op": "open", "user": "u63", "token": "t"}, {"op": "iterate", "kind": "vpiReg"}]
+        requests = [{"op": "open", "user": "u63", "token": "t"}, {"op": "iterate", "kind": "module"}]
         self.check(["run", *self.write(RACE, policy(64, 0))], script=[json.dumps(request) for request in requests])
 
     def test_long_authors(self) -> None:
@@ -203,7 +225,7 @@ class Growths(unittest.TestCase):
         requests = [
             {"op": "open", "user": "u0", "token": "t"},
             {"op": "handle", "name": "top.a"},
-            {"op": "iterate", "kind": "vpiReg"},
+            {"op": "iterate", "kind": "module"},
             {"op": "watch", "h": 1},
             {"op": "run", "until": 10},
             {"op": "poll"},
@@ -231,6 +253,79 @@ class Growths(unittest.TestCase):
 
     def test_check(self) -> None:
         self.check(["check", *self.write(envelopes(3, "acme"), policy(2, 2))])
+
+
+@needs_serve
+class Served(Refusing):
+    """One growth of a server is refused."""
+
+    words: Sequence[str]
+
+    def server(self, port: int, **env: str) -> "subprocess.Popen[str]":
+        """A server of one connection."""
+        return subprocess.Popen(
+            [PROGRAM, "serve", *self.words, "--port", str(port), "--workers", "0", "--sessions", "1"],
+            cwd=self.folder,
+            stdout=subprocess.PIPE,
+            stderr=subprocess.DEVNULL,
+            encoding="utf-8",
+            env={**os.environ, "LD_PRELOAD": str(self.shim), **env},
+        )
+
+    def replies(self, port: int) -> List[str]:
+        """What the requests are answered, until the connection ends; one that is answered `no memory` is sent again."""
+        told: List[str] = []
+        with contextlib.suppress(OSError), socket.create_connection(("127.0.0.1", port), timeout=20) as connection:
+            lines = connection.makefile("rw", encoding="utf-8", newline="\n")
+            for request in DIALOGUE:
+                reply = REFUSED
+                for _ in range(2):
+                    if reply == REFUSED:
+                        lines.write(json.dumps(request) + "\n")
+                        lines.flush()
+                        reply = lines.readline().rstrip("\n")
+                if not reply:
+                    break
+                told.append(reply)
+        return told
+
+    def dialogue(self, port: int, **env: str) -> Tuple[List[str], str, int]:
+        """What a server answers, what it prints, and its status."""
+        server = self.server(port, **env)
+        with server:
+            assert server.stdout
+            first = server.stdout.readline()
+            told = self.replies(port) if first == f"listening {port}\n" else []
+            rest = server.stdout.read()
+            return told, first + rest, server.wait(timeout=60)
+
+    def misserved_by(self, growth: int, port: int, wanted: Sequence[str]) -> Optional[str]:
+        """What is wrong with a server of which a growth is refused; nothing where it is right."""
+        told, printed, status = self.dialogue(port, REFUSE_GROWTH=str(growth))
+        lines = printed.splitlines()
+        closed = re.fullmatch(r"closed (\d+)", lines[-1]) if lines else None
+        if closed:
+            # A dialogue that broke off may have a request more in the log, and the close of its session.
+            more = 0 if len(told) == len(wanted) else 2
+            right = status == 0 and len(told) <= int(closed[1]) <= len(told) + more
+        else:
+            right = status == 1 and bool(lines) and not told and (ends_by_memory(lines[-1]) or lines[-1] == NO_THREAD)
+        return None if right and told == list(wanted[: len(told)]) else f"growth {growth}: {told} {printed!r} {status}"
+
+    def test_dialogue(self) -> None:
+        rules = '{"users":[{"name":"u0","token":"t","open":"list+read+watch+put+race"}]}'
+        self.words = self.write(RACE, rules)
+        wanted, printed, status = self.dialogue(FIRST_PORT)
+        self.assertEqual((printed, status), (f"listening {FIRST_PORT}\nclosed {len(DIALOGUE)}\n", 0))
+        self.assertEqual(len(wanted), len(DIALOGUE))
+        self.assertNotIn(REFUSED, wanted)
+        count = self.folder / "count"
+        self.dialogue(FIRST_PORT, COUNT_GROWTHS=str(count))
+        growths = int.from_bytes(count.read_bytes(), sys.byteorder)
+        self.assertGreater(growths, 100)
+        with ThreadPoolExecutor(BESIDE) as pool:
+            found = list(pool.map(lambda growth: self.misserved_by(growth, FIRST_PORT + growth, wanted), range(1, growths + 1)))
+        self.assertEqual([fault for fault in found if fault], [])
 
 
 if __name__ == "__main__":
