@@ -18,9 +18,9 @@ const ENDLESS: &str = "module top;
 endmodule
 ";
 
-/// A world whose log has room for some thousand events.
+/// A world whose log has room for some hundred thousand events, which take longer than a client on a busy machine is kept waiting.
 const SMALL: Limits = Limits {
-    log: 20_000,
+    log: 400_000,
     book: BookLimits {
         races: 16,
         steps: 1_000,
@@ -30,7 +30,7 @@ const SMALL: Limits = Limits {
 
 /// How often a request is answered beside an endless simulation, until the log is full.
 fn ask_on(alloc: Global, stream: &TcpStream) -> Option<u32> {
-    for count in 0..20_000u32 {
+    for count in 0..400_000u32 {
         send(stream, "{\"op\":\"time\"}\n")?;
         let told = line(alloc, stream)?;
         if told.as_slice() == "{\"error\":\"log full\"}\n".as_bytes() {
@@ -74,7 +74,7 @@ fn an_endless_simulation(rt: HostRuntime) {
         matches!(asked, Some(count) if count > 0),
         "requests are answered meanwhile"
     );
-    assert!(rt; told == Ok(20_000));
+    assert!(rt; told == Ok(400_000));
 }
 
 /// Bob opens his session.
