@@ -24,7 +24,7 @@ from test_faults import envelopes, policy
 from test_loddrume import PROGRAM, RACE, TOP, needs_serve
 
 # The numbers of out of memory, by docs/FORMATS.md.
-OUT_OF_MEMORY = {206, 310, 404, 510, 604, 905, 1307, 1403, 1507, 1607}
+OUT_OF_MEMORY = {206, 310, 404, 510, 604, 905, 1307, 1507, 1607}
 REFUSED = '{"error":"no memory"}'
 MISSING = "there was no memory for a line or to let the simulation run on"
 FAULT = re.compile(r"fault (\d+) line 0")
