@@ -1,5 +1,5 @@
 -- A log that is read entry by entry.
-use Rattle.std.proofs.Common.{◌≡◌, ◌∙◌, ℕ, zero, suc, ◌+◌, ◌≤◌, Bool, List, [], ◌∷◌, ◌++◌, Option, Some, None, drop, length, take, refl, ap, arith, sym, subst}
+use Rattle.std.proofs.Common.{◌≡◌, ◌∙◌, ℕ, zero, suc, ◌+◌, ◌≤◌, Bool, false, List, [], ◌∷◌, ◌++◌, Option, Some, None, drop, length, take, refl, ap, arith, sym, subst}
 use Rattle.std.specs.Prelude.{slice_get}
 use Rattle.std.specs.List.{cons_option}
 use Rattle.std.proofs.lemmas.List.{append_assoc, append-nil, drop_all}
@@ -8,7 +8,7 @@ use Rattle.vp_bits.specs.declared.bit.Bit.{Bit}
 use Rattle.vp_policy.specs.Users.{member_at}
 use Rattle.vp_sim.specs.States as sim
 use Rattle.vp_world.specs.Entries.{Entry}
-use Rattle.vp_world.specs.History.{IsLegal, after, entry_of, is_log_full, refusal_of, state_after}
+use Rattle.vp_world.specs.History.{IsLegal, after, entry_of, refusal_of, state_after}
 use Rattle.vp_world.specs.Worlds.{Opening, State, start}
 use Rattle.vp_replay.specs.declared.item.Item.{Item}
 use Rattle.vp_replay.specs.declared.item.Projection.{Projection}
@@ -56,8 +56,8 @@ pub continues : (opening : Opening) (u : ℕ) (log : List Entry) (n : ℕ) (item
 continues opening u log n items reading at e there =
     let (formed, accepted, entry, rest) = subst (IsLegal opening (take n log)) (entry_first log n e there) at.legal in
     record {
-      full = is_log_full opening (take n log);
-      accepted = ap (λ (s : State). refusal_of opening (is_log_full opening (take n log)) s e.event) at.stands ∙ accepted;
+      full = false;
+      accepted = ap (λ (s : State). refusal_of opening false s e.event) at.stands ∙ accepted;
       entry = entry ∙ ap (λ (s : State). entry_of opening s e.event) (sym at.stands);
     }
 

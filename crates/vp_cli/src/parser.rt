@@ -153,6 +153,16 @@ fn audit_words<'a>(alloc: Global) -> Result<clap::Command<'a>, AllocError> {
         .arg(explain_word(alloc))
 }
 
+/// Whether a server keeps its log.
+fn keep_word<'a>(alloc: Global) -> Arg<'a> {
+    Arg::new(alloc, "keep")
+        .long("keep")
+        .help(
+            "Keep the log, of 4,194,304 entries at most: once it is full nothing happens any more",
+        )
+        .action(ArgAction::SetTrue)
+}
+
 /// The words of `serve`.
 fn serve_words<'a>(alloc: Global) -> Result<clap::Command<'a>, AllocError> {
     clap::Command::new(alloc, "serve")
@@ -174,7 +184,8 @@ fn serve_words<'a>(alloc: Global) -> Result<clap::Command<'a>, AllocError> {
             number_word(alloc, "sessions", 0, MOST_SESSIONS)
                 .default_value("0")
                 .help("After how many connections it ends; 0: it does not end"),
-        )
+        )?
+        .arg(keep_word(alloc))
 }
 
 /// The program's words.
@@ -230,6 +241,7 @@ fn served<'a>(serve: &ArgMatches<'a>) -> Option<words::Command<'a>>
         port: port as u16,
         workers,
         sessions,
+        keep: serve.get_flag("keep"),
     })
 }
 

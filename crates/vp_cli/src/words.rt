@@ -39,6 +39,8 @@ pub enum Command<'a> {
         workers: u32,
         /// It ends after so many connections; where it is 0, it does not end.
         sessions: u32,
+        /// It keeps its log, which is full at last.
+        keep: bool,
     },
     /// To run the bundle of standard input.
     Bundle,

@@ -1,6 +1,7 @@
 -- What every desk keeps, after an event, an opening, and a pass that was handed back.
-use Rattle.std.proofs.Common.{◌≡◌, ◌∙◌, ℕ, ◌+◌, Bool, true, false, cond, List, [], ◌∷◌, ◌++◌, Some, ap, arith, length, refl, remove, subst, sum_by, sym}
-use Rattle.std.specs.Prelude.{slice_get}
+use Rattle.std.proofs.Common.{◌≡◌, ◌∙◌, ◌≤◌, ◌-◌, ◌⊎◌, inl, inr, ℕ, ◌+◌, Bool, true, false, cond, List, [], ◌∷◌, ◌++◌, Some, ap, arith, length, refl, remove, subst, sum_by, sym}
+use Rattle.std.specs.Prelude.{if◌then◌else◌, min, slice_get}
+use Rattle.std.proofs.lemmas.Bool.{le-leb}
 use Rattle.std.proofs.lemmas.List.{length_push}
 use Rattle.std.proofs.lemmas.List.Edits.{length-remove}
 use Rattle.std.proofs.lemmas.List.Sums.{sum_by_push}
@@ -11,7 +12,9 @@ use Rattle.vp_world.specs.declared.event.Event.TheVariants as event
 use Rattle.vp_world.specs.Entries.{Entry}
 use Rattle.vp_world.specs.Worlds.{Opening, WorldLog}
 use Rattle.vp_hub.specs.Calls.{Keeps, Passed, is_of_session, session_entries}
-use Rattle.vp_hub.specs.Desks.{Desked, IsDesk, IsOther, KeepsPasses}
+use Rattle.vp_hub.specs.Desks.{Desked, IsDesk, IsOther, KeepsPasses, counted_more, handed_out, handed_out_to, is_due}
+use Rattle.vp_hub.specs.declared.archive.LogArchive.TheVariants as kinds
+use Rattle.vp_world.specs.declared.archive.CountingArchive.{CountingArchive}
 
 -- an event that is of no session
 pub other_event : (e : Event) → IsOther e → is_of_session e ≡ false
@@ -87,3 +90,23 @@ desk_back opening all amount left n d next p desk keeps at world total parts out
 pub same_passes : (log next : List Entry) (out next_out : List SessionId) (back next_back : List Passed) → KeepsPasses log out back → next ≡ log → next_out ≡ out → next_back ≡ back → KeepsPasses next next_out next_back
 same_passes log next out next_out back next_back keeps a b c =
     subst (λ (x : List Entry × List SessionId × List Passed). KeepsPasses x.0 x.1 x.2) (λ i. (sym a i, sym b i, sym c i)) keeps
+
+-- the first of two, where it is chosen
+chosen : {X : Type 0} (b : Bool) (x y : X) → b ≡ true → (if b then x else y) ≡ x
+chosen true x y h = refl
+chosen false x y h = absurd (cc)
+
+-- a desk whose log was handed out to an archive that counts
+pub counted_out : (d : Desked) (a b : CountingArchive) (w : WorldLog) (n : ℕ) → d.archive ≡ kinds.Counting a → n ≡ length d.world.log - d.world.handed_out → 65536 ≤ n
+    → w ≡ record d.world { handed_out = length d.world.log } → b.entries ≡ min (a.entries + n) 18446744073709551615
+    → record d { world = w; archive = kinds.Counting b } ≡ handed_out d
+counted_out d a b w n is count due world entries =
+    let m = length d.world.log - d.world.handed_out in
+    (λ i. record d { world = world i; archive = kinds.Counting (record { entries = (entries ∙ ap (λ k. min (a.entries + k) 18446744073709551615) count) i }) })
+    ∙ sym (chosen (is_due d) (record d { world = record d.world { handed_out = length d.world.log }; archive = counted_more a m }) d (le-leb 65536 m (omega (arith, due, count))))
+    ∙ ap (handed_out_to d) (sym is)
+
+-- it is handed out or not
+pub hands_out : (b : Bool) (d next : Desked) → (b ≡ true → next ≡ handed_out d) → (b ≡ false → next ≡ d) → (next ≡ handed_out d) ⊎ (next ≡ d)
+hands_out true d next taken refused = inl (taken refl)
+hands_out false d next taken refused = inr (refused refl)

@@ -145,7 +145,7 @@ counts_on : (opening : Opening) (before log : List Entry) → IsLegal opening be
 counts_on opening before [] legal counts = subst (λ (l : List Entry). Counts (state_after opening l) (sessions_opened l)) (sym (append-nil before)) counts
 counts_on opening before (e ∷ log) legal counts =
     let s : State = state_after opening before in
-    let one = after_counts opening _ s (sessions_opened before) e.event legal.1 counts in
+    let one = after_counts opening false s (sessions_opened before) e.event legal.1 counts in
     let opened : sessions_opened (before ++ e ∷ []) ≡ sessions_opened before ++ option_to_list (opened_in e.event (answer opening s e.event)) =
     opened_more before e ∙ ap (λ (x : Reply). sessions_opened before ++ option_to_list (opened_in e.event x)) (ap (λ (x : Entry). x.reply) legal.2) in
     let next : state_after opening (before ++ e ∷ []) ≡ after opening s e.event = fold_push (λ (t : State) (x : Entry). after opening t x.event) (start opening) before e in

@@ -1,5 +1,5 @@
 -- What stands behind the lock of a hub.
-use Rattle.std.specs.Prelude.{◌≡◌, ◌≢◌, ◌<◌, ℕ, ◌+◌, ◌++◌, ◌∷◌, [], All, AllPairs, IfErr, IfOk, OnErr, OnOk, length, List, Option, None, Some, option_map, Result, slice_get, sum_by}
+use Rattle.std.specs.Prelude.{◌≡◌, ◌≢◌, ◌<◌, ℕ, ◌+◌, ◌-◌, ◌++◌, ◌∷◌, [], All, AllPairs, Bool, IfErr, IfOk, OnErr, OnOk, if◌then◌else◌, length, min, nat_le, List, Option, None, Some, option_map, Result, slice_get, sum_by}
 use Rattle.std.specs.List.{remove}
 use mathlib.Core.List.{IsPrefix}
 use Rattle.vp_answer.specs.declared.reply.Reply.{Reply}
@@ -10,28 +10,32 @@ use Rattle.vp_world.specs.declared.event.Event.{Event}
 use Rattle.vp_world.specs.declared.event.Event.TheVariants as event
 use Rattle.vp_world.specs.Entries.{Entry}
 use Rattle.vp_world.specs.declared.error.WorldError.TheVariants as world_error
-use Rattle.vp_world.specs.History.{answered_by, refused_by, with_entry}
+use Rattle.vp_world.specs.History.{answered_by, most_entries, refused_by, with_entry}
 use Rattle.vp_world.specs.Worlds.{WorldLog, Opening}
+use Rattle.vp_world.specs.declared.archive.CountingArchive.{CountingArchive}
+use Rattle.vp_hub.specs.declared.archive.LogArchive.{LogArchive}
+use Rattle.vp_hub.specs.declared.archive.LogArchive.TheVariants as kinds
 use Rattle.vp_hub.specs.declared.error.HubError.{HubError}
 use Rattle.vp_hub.specs.declared.error.HubError.TheVariants as hub_error
 use Rattle.vp_hub.specs.Calls.{IsOpenedIn, Keeps, Passed, after_call, event_of, session_entries}
 
--- a desk: its world, the total of its ledger, the parts of it that are left for passes to come, the sessions whose passes are out, and the
--- passes that were handed back
+-- a desk: its world, the total of its ledger, the parts of it that are left for passes to come, the sessions whose passes are out, the passes
+-- that were handed back, and what it hands its log out to
 pub record Desked : Type 0 where
   pub world : WorldLog
   pub total : ℕ
   pub parts : ℕ
   pub passes_out : List SessionId
   pub handed_back : List Passed
+  pub archive : LogArchive
 
 -- what every desk keeps: its world began as the opening says, the ledger's total is the number of entries of sessions, a part is left for
--- each entry that the log may still get, and one more, and each pass that is out has one of all parts; the calls of the passes that were
+-- each entry that a log may still get, and one more, and each pass that is out has one of all parts; the calls of the passes that were
 -- handed back are the amount of the desk's share
 pub record IsDesk (opening : Opening) (all : ℕ) (d : Desked) (amount : ℕ) : Type 0 where
   pub opened : d.world.opening ≡ opening
   pub counted : d.total ≡ session_entries d.world.log
-  pub room : opening.limits.log < d.parts + length d.world.log
+  pub room : most_entries < d.parts + length d.world.log
   pub parts : d.parts + length d.passes_out ≡ all
   pub sum : amount ≡ sum_by (λ p. length p.indexes) d.handed_back
 
@@ -73,6 +77,7 @@ pub record WithPass (d : Desked) (e : Event) (session : SessionId) (next : Deske
   pub parts : next.parts + 1 ≡ d.parts
   pub passes_out : next.passes_out ≡ d.passes_out ++ session ∷ []
   pub handed_back : next.handed_back ≡ d.handed_back
+  pub archive : next.archive ≡ d.archive
 
 -- a desk to which a pass was handed back that was out
 pub record WithPassBack (d : Desked) (p : Passed) (next : Desked) : Type 0 where
@@ -83,6 +88,33 @@ pub record WithPassBack (d : Desked) (p : Passed) (next : Desked) : Type 0 where
     passes_out = remove d.passes_out place;
     handed_back = d.handed_back ++ p ∷ [];
   }
+
+-- what a server hands its log out to: to nobody where it keeps it, and else it counts it
+abbrev pub archive_of : (keep : Bool) → LogArchive
+archive_of keep = if keep then kinds.Keeping else kinds.Counting (record { entries = 0 })
+
+-- a desk holds as many entries of its log as are handed out at once (profile)
+abbrev pub is_due : Desked → Bool
+is_due d = nat_le 65536 (length d.world.log - d.world.handed_out)
+
+-- an archive that counts, with so many entries more, as far as 64 bits go
+abbrev pub counted_more : CountingArchive → ℕ → LogArchive
+counted_more archive n = kinds.Counting (record { entries = min (archive.entries + n) 18446744073709551615 })
+
+-- a desk whose log is handed out, where it is due, to an archive that takes it
+abbrev pub handed_out_to : Desked → LogArchive → Desked
+handed_out_to d kinds.Keeping = d
+handed_out_to d (kinds.Counting archive) =
+    if is_due d
+    then record d {
+      world = record d.world { handed_out = length d.world.log };
+      archive = counted_more archive (length d.world.log - d.world.handed_out);
+    }
+    else d
+
+-- the same to its own
+abbrev pub handed_out : Desked → Desked
+handed_out d = handed_out_to d d.archive
 
 -- why a desk's world refuses an event, if it does
 abbrev pub refusal_of : Desked → Event → Option HubError

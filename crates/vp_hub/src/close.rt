@@ -1,4 +1,4 @@
-ghost use Rattle.std.specs.Prelude.{◌≡◌, IfOk, filter_map, map};
+ghost use Rattle.std.specs.Prelude.{◌≡◌, ◌≢◌, IfNone, IfOk, IfSome, drop, filter_map, length, map};
 ghost use Rattle.vp_hub.specs.Calls.{entry_indexes, is_own, opened_in, sessions_opened};
 
 use crate::pass::HandedBack;
@@ -16,28 +16,48 @@ pub struct Closed {
 }
 
 impl Closed {
-    /// What has happened, in order.
+    /// What has happened, in order, since entries were last handed out.
     pub fn log(&self) -> &Log
-        ensures { result.now.entries ≡ self.now.world.log }
+        ensures { result.now.entries ≡ drop self.now.world.handed_out self.now.world.log }
     {
         self.world.log()
     }
 
-    /// The indexes of each session's calls in the log, rising; of the sessions in the order in which they were opened. Takes memory.
-    pub fn receipts(&self, alloc: Global) -> Result<Sequence<Sequence<usize>>, AllocError>
-        ensures { IfOk result (λ lists. lists
-            ≡ map (entry_indexes self.now.world.log) (sessions_opened self.now.world.log)) }
+    /// How many entries the log has, those that were handed out among them.
+    pub fn entry_count(&self) -> u64
+        ensures { result ≡ length self.now.world.log }
     {
-        let log = self.log();
-        let mut lists = Vec::new(alloc);
-        for index in 0..log.len() {
-            let mut made = Entry::blank();
-            if let Some(session) = session_opened(log.entry(index, &mut made)) {
-                lists.push(entry_indexes(alloc, log, session)?)?;
-            }
-        }
-        Ok(Sequence::from_vec(lists))
+        self.world.entry_count()
     }
+
+    /// The indexes of each session's calls in the log, rising; of the sessions in the order in which they were opened. None where entries
+    /// were handed out. Takes memory.
+    pub fn receipts(&self, alloc: Global) -> Result<Option<Sequence<Sequence<usize>>>, AllocError>
+        ensures receipts { IfOk result (λ lists. IfSome lists (λ lists. lists
+            ≡ map (entry_indexes self.now.world.log) (sessions_opened self.now.world.log))) }
+        ensures whole { IfOk result (λ lists. IfSome lists (λ _. self.now.world.handed_out ≡ 0)) }
+        ensures gone { IfOk result (λ lists. IfNone lists (self.now.world.handed_out ≢ 0)) }
+    {
+        if self.world.handed_out() != 0 {
+            return Ok(None);
+        }
+        Ok(Some(receipts(alloc, self.log())?))
+    }
+}
+
+/// The indexes of each session's calls in a log, rising; of the sessions in the order in which they were opened. Takes memory.
+fn receipts(alloc: Global, log: &Log) -> Result<Sequence<Sequence<usize>>, AllocError>
+    ensures { IfOk result (λ lists. lists
+        ≡ map (entry_indexes log.now.entries) (sessions_opened log.now.entries)) }
+{
+    let mut lists = Vec::new(alloc);
+    for index in 0..log.len() {
+        let mut made = Entry::blank();
+        if let Some(session) = session_opened(log.entry(index, &mut made)) {
+            lists.push(entry_indexes(alloc, log, session)?)?;
+        }
+    }
+    Ok(Sequence::from_vec(lists))
 }
 
 /// The session that an entry opened, if it opened one.

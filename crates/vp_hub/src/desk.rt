@@ -1,4 +1,4 @@
-ghost use Rattle.std.specs.Prelude.{◌≡◌, ◌≢◌, ◌<◌, ◌^◌, ◌+◌, ◌++◌, ◌∷◌, [], All, IfErr, IfOk, OnErr, OnOk, None, Some, length, true};
+ghost use Rattle.std.specs.Prelude.{◌≡◌, ◌≢◌, ◌⊎◌, ◌<◌, ◌^◌, ◌+◌, ◌++◌, ◌∷◌, [], All, drop, IfErr, IfOk, OnErr, OnOk, None, Some, length, true};
 ghost use Rattle.std.specs.Prelude.{IfNone, IfSome, slice_get};
 ghost use Rattle.std.specs.Arc.{arc_value};
 ghost use mathlib.Core.List.{IsPrefix};
@@ -7,12 +7,13 @@ ghost use Rattle.vp_text.specs.Refusals.{Explains};
 ghost use Rattle.vp_world.specs.declared.event.Event.TheVariants as event;
 ghost use Rattle.vp_world.specs.declared.error.WorldError.TheVariants.{NoMemory};
 ghost use Rattle.vp_world.specs.Events.{IsWellFormed};
-ghost use Rattle.vp_world.specs.History.{IsLegal, answered_by, refused_by};
+ghost use Rattle.vp_world.specs.History.{IsLegal, answered_by, most_entries, refused_by};
 ghost use Rattle.vp_hub.specs.declared.error.HubError.TheVariants.{Mismatch, Receipt};
 ghost use Rattle.vp_hub.specs.Calls.{is_of_session, session_entries};
 ghost use Rattle.vp_hub.specs.Closing.{HaveAll, IsClosed};
-ghost use Rattle.vp_hub.specs.Desks.{Calls, IsOther, WithPass, WithPassBack, refusal_of, out_of_memory, with_call, with_event};
+ghost use Rattle.vp_hub.specs.Desks.{Calls, IsOther, WithPass, WithPassBack, refusal_of, out_of_memory, handed_out, with_call, with_event};
 
+use crate::archive::LogArchive;
 use crate::close::Closed;
 use crate::entries::event_of;
 use crate::error::HubError;
@@ -26,7 +27,7 @@ use vp_answer::{Call, Reply, SessionId};
 use vp_history::{Front, History, Shows};
 use vp_race::{Finding, Segment, SimError};
 use vp_text::{Shared, Text};
-use vp_world::{Entry, Event, Log, World, WorldError};
+use vp_world::{Entry, Event, KeepingArchive, Log, World, WorldError};
 
 /// What stands behind the lock of a hub: a world, the total of the ledger of its sessions' calls, and whose passes are out. A contract sees
 /// these, how many parts of the ledger are left for passes to come, and the passes that were handed back.
@@ -34,6 +35,7 @@ use vp_world::{Entry, Event, Log, World, WorldError};
 pub struct Desk<L: NamesOpening> {
     alloc: Global,
     world: World,
+    archive: LogArchive,
     /// The number of the log's entries of sessions.
     calls: Book<L>,
     /// The parts for passes to come, and the amounts of those that were handed back.
@@ -57,6 +59,7 @@ impl<L: NamesOpening> Model for Desk<L> {
       parts = d.rest.parts;
       passes_out = d.passes_out.items;
       handed_back = d.handed_back.entries;
+      archive = d.archive;
     } };
 
     ghost invariant = { λ d. record {
@@ -66,11 +69,15 @@ impl<L: NamesOpening> Model for Desk<L> {
         parts = d.rest.parts;
         passes_out = d.passes_out.items;
         handed_back = d.handed_back.entries;
+        archive = d.archive;
       }) d.rest.amount;
       history : IsLogOf L.history d.world d.history.name d.history.entries;
       passes : KeepsPasses d.world.log d.passes_out.items d.handed_back.entries;
     } };
 }
+
+/// So many entries are handed out at once.
+const HANDED_OUT_AT: usize = 65_536;
 
 /// A world shows its log.
 struct ShownLog;
@@ -93,12 +100,18 @@ fn place_of(sessions: &[SessionId], session: SessionId) -> Option<usize>
 }
 
 impl<L: NamesOpening> Desk<L> {
-    /// A desk with a world in which nothing has happened, a new ledger with a part for each entry that the log may get, and one
-    /// more, and a new history.
-    pub fn new(alloc: Global, blank: Blank, history: History<Entry>, world: World) -> Desk<L>
+    /// A desk with a world in which nothing has happened, a new ledger with a part for each entry that a log may get, and one
+    /// more, a new history, and an archive.
+    pub fn new(
+        alloc: Global,
+        blank: Blank,
+        history: History<Entry>,
+        world: World,
+        archive: LogArchive,
+    ) -> Desk<L>
         requires name { blank.name ≡ L.name }
         requires parts { blank.parts ≡ L.parts }
-        requires room { blank.parts ≡ world.opening.limits.log + 1 }
+        requires room { most_entries < blank.parts }
         requires opening { world.opening ≡ L.opening }
         requires empty { world.log ≡ [] }
         requires history { history.name ≡ L.history }
@@ -109,12 +122,14 @@ impl<L: NamesOpening> Desk<L> {
           parts = blank.parts;
           passes_out = [];
           handed_back = [];
+          archive = archive;
         } }
     {
         let (calls, rest) = blank.open::<L>();
         Desk {
             alloc,
             world,
+            archive,
             calls,
             rest,
             history,
@@ -123,25 +138,26 @@ impl<L: NamesOpening> Desk<L> {
         }
     }
 
-    /// What has happened, in order: the log is legal, and the total of the ledger is the number of its entries of sessions.
+    /// What has happened, in order, since entries were last handed out. The log, all that has happened, is legal, and the total of the ledger
+    /// is the number of its entries of sessions.
     pub fn log(&self) -> &Log
-        ensures log { result.now.entries ≡ self.now.world.log }
-        ensures legal { IsLegal L.opening [] result.now.entries }
+        ensures log { result.now.entries ≡ drop self.now.world.handed_out self.now.world.log }
+        ensures legal { IsLegal L.opening [] self.now.world.log }
         ensures opening { self.now.world.opening ≡ L.opening }
-        ensures counted { self.now.total ≡ session_entries result.now.entries }
+        ensures counted { self.now.total ≡ session_entries self.now.world.log }
     {
         self.world.log()
     }
 
     /// How many entries the log has, which goes on from a front of its history.
-    fn length_from(&mut self, seen: &Front<Entry>) -> usize
+    fn length_from(&mut self, seen: &Front<Entry>) -> u64
         requires { seen.now.name ≡ L.history }
         ensures same { self.new ≡ self.old }
         ensures seen { IsPrefix seen.now.entries self.old.world.log }
         ensures length { result ≡ length self.old.world.log }
     {
         self.history.compare(seen);
-        self.world.log().len()
+        self.world.entry_count()
     }
 
     /// Lets an event of a session happen, counts it in a share, and gives what is to be seen of the log with the reply; else the world's
@@ -171,7 +187,7 @@ impl<L: NamesOpening> Desk<L> {
         self.history.advance::<World, ShownLog>(&self.world);
         // Read, so that the check knows that they are few.
         self.calls.audit(share);
-        let _entries = self.world.log().len();
+        let _entries = self.world.entry_count();
         Ok((reply, self.history.front()))
     }
 
@@ -194,7 +210,7 @@ impl<L: NamesOpening> Desk<L> {
             self.world.check_open(user.as_str(), token.as_str())?;
             return Err(HubError::from(error));
         }
-        let index = self.world.log().len();
+        let index = self.world.entry_count();
         let reply = self.world.apply(Event::Open { user, token })?;
         let Reply::Opened(session) = reply else {
             unreachable!()
@@ -204,7 +220,7 @@ impl<L: NamesOpening> Desk<L> {
         self.history.advance::<World, ShownLog>(&self.world);
         self.passes_out.push_reserved(session);
         let mut indexes = History::new();
-        indexes.push::<usize, Index>(&index);
+        indexes.push::<u64, Index>(&index);
         Ok(Pass {
             session,
             calls: 1,
@@ -235,7 +251,7 @@ impl<L: NamesOpening> Desk<L> {
         let event = event_of(pass.session, call);
         let (reply, seen) = self.count(&mut pass.share, event)?;
         pass.calls += 1;
-        pass.indexes.push::<usize, Index>(&index);
+        pass.indexes.push::<u64, Index>(&index);
         pass.seen = seen;
         Ok(reply)
     }
@@ -258,6 +274,24 @@ impl<L: NamesOpening> Desk<L> {
 }
 
 impl<L: NamesOpening> Desk<L> {
+    /// Hands out the entries that the log holds, once they are 65,536, unless the archive refuses them.
+    pub fn hand_out(&mut self)
+        ensures { (self.new ≡ handed_out self.old) ⊎ (self.new ≡ self.old) }
+    {
+        if self.world.log().len() < HANDED_OUT_AT {
+            return;
+        }
+        match &mut self.archive {
+            LogArchive::Keeping => self.world.hand_out(&mut KeepingArchive),
+            LogArchive::Counting(archive) => self.world.hand_out(archive),
+        };
+    }
+
+    /// The time slot has as many steps as it takes.
+    pub(crate) fn is_slot_full(&self) -> bool {
+        self.world.is_slot_full()
+    }
+
     /// Lets the next event of the simulation happen: the first that a step can take, or, where nothing is left to do at the current
     /// time, an advance; else its refusal, which leaves the desk as it was.
     pub(crate) fn run_next(&mut self) -> Result<(), HubError>

@@ -67,6 +67,9 @@ fn run_events<L: NamesOpening>(
             Err(HubError::World(WorldError::BeyondGoal | WorldError::Sim(_))) => {
                 return Ok(Ran { events, idle: true });
             }
+            Err(HubError::World(WorldError::LogFull)) if desk.is_slot_full() => {
+                return Ok(Ran { events, idle: true });
+            }
             Err(error) => return Err(error),
         }
         if waiting.load(Ordering::SeqCst) > 0 {
@@ -140,6 +143,7 @@ impl<L: NamesOpening> Hub<L> {
         let pass = desk.open(user, token)?;
         // Read, so that the check knows that it is legal.
         let _log = desk.log();
+        desk.hand_out();
         Ok(pass)
     }
 
@@ -152,18 +156,24 @@ impl<L: NamesOpening> Hub<L> {
     ) -> (Pass<L>, Result<Reply, HubError>)
         ensures { IsAnswered L.opening pass call result.1 result.0 }
     {
-        self.desk(rt).call(pass, call)
+        let mut desk = self.desk(rt);
+        let answered = desk.call(pass, call);
+        desk.hand_out();
+        answered
     }
 
     /// Changes a user's grant for an envelope; else the world's refusal (1403: 1310, 1311, 1312, 1304, 1307).
     pub fn grant<R: Wait>(&self, rt: &R, change: GrantChange) -> Result<Reply, HubError>
         ensures { IfOk result (λ a. a ≡ replies.Done) }
     {
-        self.desk(rt).event(Event::Grant(change))
+        let mut desk = self.desk(rt);
+        let answer = desk.event(Event::Grant(change))?;
+        desk.hand_out();
+        Ok(answer)
     }
 
     /// Lets at most so many events of the simulation happen. The lock is held for up to 64 of them, and given up after the event during
-    /// which somebody begins to wait for it. Refused by a full log (1403: 1304) or when out of memory (1403: 1307); what happened till then
+    /// which somebody begins to wait for it. A full time slot is idle: it waits for a put. Refused by a full log (1403: 1304) or when out of memory (1403: 1307); what happened till then
     /// has happened.
     pub fn run_sim<R: Wait>(&self, rt: &R, most: u64) -> Result<Ran, HubError>
         ensures most { IfOk result (λ ran. ran.events ≤ most) }
@@ -192,7 +202,9 @@ impl<L: NamesOpening> Hub<L> {
         ensures idle { IfOk result (λ ran. ran.idle ≡ true → ran.events < most) }
     {
         let mut desk = self.desk.lock(rt);
-        run_events(&mut desk, most.min(EVENTS_UNDER_LOCK), &self.waiting)
+        let ran = run_events(&mut desk, most.min(EVENTS_UNDER_LOCK), &self.waiting);
+        desk.hand_out();
+        ran
     }
 
     /// Leaves the lock for a moment to those who wait for it.
@@ -232,14 +244,20 @@ impl<L: NamesOpening> Hub<L> {
         ensures { IfOk result (λ job. IfSome job
             (λ s. (arc_value s).start.design ≡ L.opening.design)) }
     {
-        self.desk(rt).take_job()
+        let mut desk = self.desk(rt);
+        let job = desk.take_job()?;
+        desk.hand_out();
+        Ok(job)
     }
 
     /// Books a race unless the book refuses it, and reports whether it was booked.
     fn book<R: Wait>(&self, rt: &R, finding: Finding) -> Result<bool, HubError>
         requires { finding.segment.start.design ≡ L.opening.design }
     {
-        self.desk(rt).book(finding)
+        let mut desk = self.desk(rt);
+        let booked = desk.book(finding)?;
+        desk.hand_out();
+        Ok(booked)
     }
 
     /// Books these races, one after another, each unless the book refuses it, and reports how many were booked.

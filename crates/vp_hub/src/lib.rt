@@ -3,6 +3,7 @@
 #![tactic(auto)]
 
 mod accept;
+mod archive;
 mod background;
 mod client;
 mod close;
@@ -20,6 +21,7 @@ mod server_error;
 mod service;
 mod settings;
 
+pub use archive::LogArchive;
 pub use close::Closed;
 pub use desk::Desk;
 pub use error::HubError;

@@ -11,7 +11,7 @@ use vp_world::Entry;
 /// An index is what it stands for.
 pub(crate) struct Index;
 
-impl Names<usize, usize> for Index {
+impl Names<u64, u64> for Index {
     ghost entry = { λ index. index };
 }
 
@@ -42,7 +42,7 @@ pub struct Pass<L: NamesOpening> {
     /// So many calls.
     pub(crate) calls: u64,
     /// Their indexes, for contracts alone.
-    pub(crate) indexes: History<usize>,
+    pub(crate) indexes: History<u64>,
     /// The log as it was after the last of them, for contracts alone.
     pub(crate) seen: Front<Entry>,
     pub(crate) share: Share<L>,

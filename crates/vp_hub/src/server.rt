@@ -1,7 +1,10 @@
-ghost use Rattle.std.specs.Prelude.{◌≡◌, ◌+◌, ◌<◌, ◌^◌, [], IfOk};
+ghost use Rattle.std.specs.Prelude.{◌≡◌, ◌<◌, [], IfOk};
+ghost use Rattle.vp_world.specs.History.{most_entries};
 ghost use Rattle.vp_hub.specs.Closing.{IsClosed};
+ghost use Rattle.vp_hub.specs.Desks.{archive_of};
 
 use crate::accept::{accept_all, await_all};
+use crate::archive::LogArchive;
 use crate::background::{run_simulation, run_worker};
 use crate::close::Closed;
 use crate::desk::Desk;
@@ -21,7 +24,10 @@ use std::thread::{Scope, Threads};
 use std::time::Clock;
 use vp_history::History;
 use vp_race::Gate;
-use vp_world::{Entry, Limits, World};
+use vp_world::{CountingArchive, Entry, World};
+
+/// A part for each entry that a log may get, and one more.
+const LEDGER_PARTS: u64 = (1 << 62) + 1;
 
 /// Starts the thread of the simulation and those of the workers, and reports whether all could be started.
 fn start<
@@ -62,6 +68,17 @@ fn run<'a, L: NamesOpening + Send + Sync, R: Threads + Wait + Clock + Sync, G: G
     })
 }
 
+/// What the server hands its log out to.
+fn archive_of(settings: &Settings) -> LogArchive
+    ensures { result ≡ archive_of settings.now.keep }
+{
+    if settings.keep {
+        LogArchive::Keeping
+    } else {
+        LogArchive::Counting(CountingArchive { entries: 0 })
+    }
+}
+
 /// Serves a world in which nothing has happened to the connections of a listener, and gives what is left of it; or reports that a thread
 /// can't be started (1606), or why the hub can't be closed (1402).
 fn serve_world<L: NamesOpening + Send + Sync, R: Threads + Wait + Clock + Sync, G: Gate + Sync>(
@@ -76,14 +93,15 @@ fn serve_world<L: NamesOpening + Send + Sync, R: Threads + Wait + Clock + Sync, 
 ) -> Result<Closed, ServerError>
     requires name { blank.name ≡ L.name }
     requires parts { blank.parts ≡ L.parts }
-    requires room { blank.parts ≡ world.opening.limits.log + 1 }
+    requires room { most_entries < blank.parts }
     requires opening { world.opening ≡ L.opening }
     requires empty { world.log ≡ [] }
     requires history { history.name ≡ L.history }
     requires begins { history.entries ≡ [] }
     ensures closed { IfOk result (λ closed. IsClosed world.opening closed) }
 {
-    let hub = Hub::new(alloc, Desk::<L>::new(alloc, blank, history, world));
+    let archive = archive_of(&settings);
+    let hub = Hub::new(alloc, Desk::<L>::new(alloc, blank, history, world, archive));
     let service = Service::new(alloc, settings, hub, gate);
     if !run(rt, &service, listener) {
         return Err(ServerError::NoThread);
@@ -100,7 +118,6 @@ pub fn serve<R, G>(
     rt: &R,
     alloc: Global,
     world: World,
-    limits: Limits,
     settings: Settings,
     listener: &TcpListener,
     gate: &G,
@@ -108,12 +125,10 @@ pub fn serve<R, G>(
 where
     R: Threads + Wait + Clock + Sync,
     G: Gate + Sync,
-    requires limits { world.opening.limits ≡ limits }
-    requires room { limits.log < 2 ^ 32 }
     requires empty { world.log ≡ [] }
     ensures closed { IfOk result (λ closed. IsClosed world.opening closed) }
 {
-    let blank = Blank::new((limits.log as u64) + 1);
+    let blank = Blank::new(LEDGER_PARTS);
     let history = History::new();
     serve_world::<Brand, R, G>(rt, alloc, blank, history, world, settings, listener, gate)
 }

@@ -1,5 +1,5 @@
 ghost use Rattle.std.specs.Duration.{as_nanos};
-ghost use Rattle.std.specs.Prelude.{◌≡◌, ◌*◌};
+ghost use Rattle.std.specs.Prelude.{◌≡◌, ◌*◌, false};
 
 use std::time::Duration;
 
@@ -10,6 +10,8 @@ pub struct Settings {
     pub workers: u32,
     /// It ends after so many connections; where it is 0, it does not end.
     pub sessions: u32,
+    /// The log holds all that happens, and is full at last; else it is counted and let go of.
+    pub keep: bool,
     /// How long a client may take until its session is open, or it has changed a grant as the operator.
     pub opening_time: Duration,
     /// How long a client may read nothing of a reply.
@@ -22,10 +24,11 @@ pub struct Settings {
 
 impl Settings {
     /// A server whose clients have a minute to open a session, ten seconds to read something of a reply, and a minute to read all of it, and
-    /// whose simulation rests a millisecond.
+    /// whose simulation rests a millisecond; its log is not kept.
     pub fn new(workers: u32, sessions: u32) -> Settings
         ensures workers { result.workers ≡ workers }
         ensures sessions { result.sessions ≡ sessions }
+        ensures keep { result.keep ≡ false }
         ensures opening { as_nanos result.opening_time ≡ 60 * 1_000_000_000 }
         ensures silence { as_nanos result.reading_silence ≡ 10 * 1_000_000_000 }
         ensures reading { as_nanos result.reading_time ≡ 60 * 1_000_000_000 }
@@ -34,6 +37,7 @@ impl Settings {
         Settings {
             workers,
             sessions,
+            keep: false,
             opening_time: Duration::from_secs(60),
             reading_silence: Duration::from_secs(10),
             reading_time: Duration::from_secs(60),

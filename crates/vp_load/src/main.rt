@@ -54,6 +54,7 @@ fn tell_entries<R: Eprint>(rt: &R, log: &Log, milliseconds: u64) -> io::Result<(
 }
 
 /// Compares what was shown with the log of a server that has ended, and tries whether the comparison finds what differs.
+#[tactic(auto, using(crate::proofs::Legal::formed_rest))]
 fn compare_server<R: AllocGlobal + Eprint>(
     rt: &R,
     checked: &Arc<Checked>,

@@ -41,12 +41,14 @@ fn serve_clients<R: Threads + Wait + Clock + Sync>(
     ensures { IfOk result
         (λ closed. AreWellFormed (arc_value checked.now) closed.world.log) }
 {
-    let limits = Limits::GREATEST;
-    let Some(world) = world_of(alloc, checked, limits) else {
+    let Some(world) = world_of(alloc, checked, Limits::GREATEST) else {
         return Err(Difference::NoWorld);
     };
-    let settings = Settings::new(WORKERS, CONNECTIONS);
-    let closed = serve(rt, alloc, world, limits, settings, listener, &OpenGate)?;
+    let settings = Settings {
+        keep: true,
+        ..Settings::new(WORKERS, CONNECTIONS)
+    };
+    let closed = serve(rt, alloc, world, settings, listener, &OpenGate)?;
     Ok(closed)
 }
 

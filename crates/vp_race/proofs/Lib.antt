@@ -13,3 +13,5 @@ pub mod Numbering
 pub mod Standing
 pub mod Naming
 pub mod Crossing
+pub mod Within
+pub mod KeptRows

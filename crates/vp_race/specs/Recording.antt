@@ -1,5 +1,5 @@
 -- A simulation whose time slots are recorded as segments (profile).
-use Rattle.std.specs.Prelude.{◌≡◌, ℕ, ◌-◌, ◌≤◌, ◌==◌, suc, nat_lt, true, false, if◌then◌else◌, List, [], ◌∷◌, ◌++◌, length, replicate, Option, Some, None, IfSome}
+use Rattle.std.specs.Prelude.{◌≡◌, ℕ, ◌-◌, ◌≤◌, ◌==◌, suc, nat_le, nat_lt, true, false, if◌then◌else◌, List, [], ◌∷◌, ◌++◌, length, replicate, sum_by, Option, Some, None, IfSome}
 use Rattle.std.specs.List.{find}
 use Rattle.std.specs.Option.{option_map_or}
 use Rattle.std.specs.Arc.{arc_value}
@@ -45,9 +45,22 @@ with_anew r s = record r { opened = opened_at s }
 abbrev pub kept_limit : ℕ
 kept_limit = 256
 
+-- and of so many choices together, those among them that were the only ones (profile)
+abbrev pub choices_limit : ℕ
+choices_limit = 16777216
+
+-- how many choices closed segments have together
+abbrev pub choices_of : List Run → ℕ
+choices_of runs = sum_by (λ run. length run.order) runs
+
+-- the last of some closed segments that have at most so many choices together
+abbrev pub last_within : (most : ℕ) → List Run → List Run
+last_within most [] = []
+last_within most (run ∷ runs) = if nat_le (choices_of (run ∷ runs)) most then run ∷ runs else last_within most runs
+
 -- the last of some closed segments
 abbrev pub last_kept : List Run → List Run
-last_kept runs = keep_last kept_limit runs
+last_kept runs = last_within choices_limit (keep_last kept_limit runs)
 
 -- the open segment, closed by a last choice
 abbrev pub closed_run : Segments → (choice : ℕ) → Run

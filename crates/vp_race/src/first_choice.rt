@@ -1,4 +1,4 @@
-ghost use Rattle.std.specs.Prelude.{◌≡◌, ◌≤◌, ◌-◌, ◌∷◌, ◌++◌, [], true, length, replicate, IfOk, OnOk};
+ghost use Rattle.std.specs.Prelude.{◌≡◌, ◌<◌, ◌≤◌, ◌+◌, ◌-◌, ◌^◌, ◌∷◌, ◌++◌, [], true, length, nat_le, replicate, IfOk, OnOk};
 ghost use Rattle.std.specs.Arc.{arc_value};
 ghost use Rattle.std.specs.Vec.{vec_capacity, vec_len};
 
@@ -85,6 +85,23 @@ impl FirstChoice {
         ensures { result.now ≡ self.now.order }
     {
         self.order.as_slice()
+    }
+
+    /// The run took at least so many steps since the segment's start.
+    #[inline(always)]
+    pub fn has_steps(&self, count: usize) -> bool
+        ensures { result ≡ nat_le count (length self.now.sources + length self.now.order) }
+    {
+        let forced = self.sources.len();
+        forced >= count || self.order.len() >= count - forced
+    }
+
+    /// How many steps the run took since the segment's start.
+    pub fn step_count(&self) -> u64
+        requires { length self.now.sources + length self.now.order < 2 ^ 64 }
+        ensures { result ≡ length self.now.sources + length self.now.order }
+    {
+        self.sources.len() as u64 + self.order.len() as u64
     }
 
     /// What the run chose from the segment's start on. Takes memory for it.

@@ -1,4 +1,4 @@
-ghost use Rattle.std.specs.Prelude.{◌≡◌, ◌<◌, ◌+◌, ◌^◌, false, length, true, None, Some, IfOk, IfSome, IsSome, OnOk, option_map};
+ghost use Rattle.std.specs.Prelude.{◌≡◌, ◌<◌, ◌+◌, ◌^◌, false, length, nat_le, true, None, Some, IfOk, IfSome, IsSome, OnOk, option_map};
 ghost use Rattle.vp_sim.specs.States.{State, eligible};
 ghost use Rattle.vp_race.specs.Orders.{is_over};
 ghost use Rattle.vp_race.specs.Recording.{HasRoom, IsKept, Stands, opened_by, with_choice, with_closed};
@@ -63,6 +63,20 @@ impl OpenSegment {
     {
         self.start = None;
         self.choice = None;
+    }
+
+    /// The run took at least so many steps in it.
+    #[inline(always)]
+    pub fn has_steps(&self, count: usize) -> bool
+        ensures { (s : State) → result ≡ nat_le count (length (opened_by self.now s).order) }
+    {
+        if self.start.is_none() {
+            return count == 0;
+        }
+        match &self.choice {
+            Some(choice) => choice.has_steps(count),
+            None => self.sources.len() >= count,
+        }
     }
 
     /// It begins with a simulation as it is, if it is not begun.

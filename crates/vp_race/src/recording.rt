@@ -1,4 +1,4 @@
-ghost use Rattle.std.specs.Prelude.{◌≡◌, ◌<◌, ◌+◌, ◌^◌, None, option_copied, option_map, IfErr, IfOk, IsOkUnless, MatchOption, OnErr, OnOk};
+ghost use Rattle.std.specs.Prelude.{◌≡◌, ◌<◌, ◌+◌, ◌^◌, None, length, nat_le, option_copied, option_map, IfErr, IfOk, IsOkUnless, MatchOption, OnErr, OnOk};
 ghost use Rattle.std.specs.Arc.{arc_value};
 ghost use Rattle.vp_sim.specs.States.{refusal_in, Goes, advance, change_in, put, start, step};
 ghost use Rattle.vp_text.specs.Refusals.{Explains};
@@ -75,6 +75,14 @@ impl Recording {
         ensures { result ≡ self.now.segments.count }
     {
         self.closed.count()
+    }
+
+    /// The open segment has at least so many steps.
+    #[inline(always)]
+    pub fn has_steps(&self, count: usize) -> bool
+        ensures { result ≡ nat_le count (length self.now.segments.opened.order) }
+    {
+        self.begun.has_steps(count)
     }
 
     /// Takes the k-th of the events that a step can take, and reports which net or reg it changed. It belongs to the open segment, which closes where nothing

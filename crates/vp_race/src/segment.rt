@@ -1,4 +1,4 @@
-ghost use Rattle.std.specs.Prelude.{◌≡◌, ℕ, [], false, replicate, IfNone, IfOk, IfSome};
+ghost use Rattle.std.specs.Prelude.{◌≡◌, ◌<◌, ◌^◌, ℕ, [], false, length, nat_le, replicate, IfNone, IfOk, IfSome};
 ghost use Rattle.vp_race.specs.Orders.{HasEnd, has_choice};
 ghost use Rattle.vp_race.specs.Recording.{IsClosed, IsFirstOf, order_from};
 ghost use Rattle.vp_race.specs.Same.{same_run};
@@ -97,6 +97,27 @@ impl Segment {
         match &self.choice {
             Some(choice) => choice.whole_order(alloc),
             None => vec![in alloc; 0u32; self.forced as usize],
+        }
+    }
+
+    /// The run took at least so many steps.
+    pub(crate) fn has_steps(&self, count: usize) -> bool
+        ensures { result ≡ nat_le count (length self.now.order) }
+    {
+        match &self.choice {
+            Some(choice) => choice.has_steps(count),
+            None => self.forced >= count as u64,
+        }
+    }
+
+    /// How many choices the order has.
+    pub(crate) fn choices(&self) -> u64
+        requires { length self.now.order < 2 ^ 64 }
+        ensures { result ≡ length self.now.order }
+    {
+        match &self.choice {
+            Some(choice) => choice.step_count(),
+            None => self.forced,
         }
     }
 

@@ -1,6 +1,6 @@
--- The simulation runs until nothing happens next, at the latest where the log is full.
+-- The simulation runs until nothing happens next, at the latest where the log has as many entries as one gets.
 use Rattle.std.proofs.Common.{◌≡◌, ◌∙◌, ℕ, zero, suc, ◌+◌, ◌-◌, ◌<◌, ◌≤◌, All, Bool, true, false, List, [], ◌∷◌, ◌++◌, length, Option, Some, None, refl, sym, subst, inl, inr, ap, arith}
-use Rattle.std.specs.Prelude.{◌⊎◌, if◌then◌else◌, is_none, slice_get, drop}
+use Rattle.std.specs.Prelude.{◌⊎◌, if◌then◌else◌, is_none, nat_le, slice_get, drop}
 use Rattle.std.specs.Option.{option_map_or}
 use Rattle.std.proofs.lemmas.Bool.{leb-false}
 use Rattle.std.proofs.lemmas.List.{length-append}
@@ -14,8 +14,9 @@ use Rattle.vp_world.specs.declared.event.Event.{Event}
 use Rattle.vp_world.specs.declared.event.Event.TheVariants as event
 use Rattle.vp_world.specs.declared.error.WorldError.{WorldError}
 use Rattle.vp_world.specs.declared.error.WorldError.TheVariants as error
-use Rattle.vp_world.specs.History.{is_log_full, refusal_of, refusal_of_job, refused_by, state_after, with_entry}
+use Rattle.vp_world.specs.History.{is_log_full, limit_for, most_entries, refusal_of, refusal_of_job, refused_by, state_after, with_entry}
 use Rattle.vp_world.specs.Worlds.{WorldLog, Opening, State}
+use Rattle.vp_world.proofs.Logs.{second_not}
 use Rattle.vp_script.specs.Pending.{ArePending, HappensTo, pending, running_of}
 use Rattle.vp_script.specs.Scripts.{Happen, Running, Runs, next_event, next_event_by, searched, step_limit, turned, turned_by, with_event_if}
 
@@ -46,22 +47,24 @@ job_not_full : (full : Bool) (job : Option Run) → refusal_of_job full job ≡ 
 job_not_full false job none = refl
 job_not_full true job none = cc
 
--- the room in the log of a world
+-- the room in the log of a world: of all entries that a log gets
 abbrev pub room : WorldLog → ℕ
-room w = w.opening.limits.log - length w.log
+room w = most_entries - length w.log
 
--- an event takes of the room, where the log is not full
-takes : (w : WorldLog) (e : Event) → is_log_full w.opening w.log ≡ false → room (with_entry w e) < room w
-takes w e open_log = omega (arith, leb-false w.opening.limits.log (length w.log) open_log, length-append w.log)
+-- an event takes of the room, where the log is not full for it
+takes : (w : WorldLog) (e : Event) → is_log_full w e ≡ false → room (with_entry w e) < room w
+takes w e open_log =
+    let few = leb-false most_entries (length w.log) (second_not (nat_le (limit_for w.opening.limits e) (length w.log - w.handed_out)) (nat_le most_entries (length w.log)) open_log) in
+    omega (arith, few, length-append w.log)
 
 -- each event of the simulation takes of the room
 pub less_room : (w : WorldLog) → refused_by w (next_event w) ≡ None → room (with_entry w (next_event w)) < room w
 less_room w none =
-    takes w (next_event w) (not_full w.opening (state_after w.opening w.log) (is_log_full w.opening w.log) (refused_by w (event.Step 0)) none)
+    takes w (next_event w) (not_full w.opening (state_after w.opening w.log) (is_log_full w (next_event w)) (refused_by w (event.Step 0)) none)
 
 -- and so does a job
 less_by_job : (w : WorldLog) → refused_by w event.TakeJob ≡ None → room (with_entry w event.TakeJob) < room w
-less_by_job w none = takes w event.TakeJob (job_not_full (is_log_full w.opening w.log) _ none)
+less_by_job w none = takes w event.TakeJob (job_not_full (is_log_full w event.TakeJob) _ none)
 
 -- no event gives any
 no_more : (w : WorldLog) (e : Event) → room (with_entry w e) ≤ room w

@@ -156,7 +156,7 @@ Serves out_of_memory before r answer after =
 
 -- a world that began so, in which nothing has happened
 abbrev pub new_world : Opening → WorldLog
-new_world opening = record { opening = opening; log = [] }
+new_world opening = record { opening = opening; log = []; handed_out = 0 }
 
 -- the script of a world that has opened no session
 abbrev pub begun : (seeds : ℕ) → WorldLog → Script
@@ -170,7 +170,7 @@ opened seeds opening = begun seeds (new_world opening)
 
 -- the greatest limits of a world (profile)
 abbrev pub greatest : Limits
-greatest = record { log = 4194304; book = record { races = 65536; steps = 16777216 }; sessions = 64 }
+greatest = record { log = 4194304; for_users = 0; for_operator = 0; for_closes = 0; book = record { races = 65536; steps = 16777216 }; sessions = 64 }
 
 -- a world opens with a design and a policy, and with the greatest limits
 abbrev pub opening_of : Elaborated → PolicyState → Opening

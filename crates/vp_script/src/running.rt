@@ -254,7 +254,8 @@ fn run(
     }
 }
 
-/// A world whose simulation runs, and the races that were found in it and are still to be booked. A contract sees both.
+/// A world whose simulation runs, and the races that were found in it and are still to be booked. A contract sees both. The world holds
+/// its whole log.
 #[derive(Drop)]
 pub struct RunningWorld {
     alloc: Global,
@@ -268,7 +269,7 @@ pub struct RunningWorld {
 }
 
 impl Model for RunningWorld {
-    ghost use Rattle.std.specs.Prelude.{option_map};
+    ghost use Rattle.std.specs.Prelude.{◌≡◌, option_map};
     ghost use Rattle.std.specs.Arc.{arc_value};
     ghost use Rattle.vp_script.specs.Pending.{ArePending, running_of};
     ghost use Rattle.vp_script.specs.Scripts.{Running};
@@ -278,13 +279,17 @@ impl Model for RunningWorld {
     ghost view = { λ r. running_of r.seeds r.world (option_map arc_value r.segment)
         r.findings.items };
 
-    ghost invariant = { λ r. ArePending r.world.opening.design (option_map arc_value r.segment)
-        r.findings.items };
+    ghost invariant = { λ r. record {
+      pending : ArePending r.world.opening.design (option_map arc_value r.segment)
+          r.findings.items;
+      whole : r.world.handed_out ≡ 0;
+    } };
 }
 
 impl RunningWorld {
-    /// A world of which no race is to be booked, and whose searches try so many seeds.
+    /// A world of which no race is to be booked and no entry was handed out, and whose searches try so many seeds.
     pub fn new(alloc: Global, seeds: u64, world: World) -> RunningWorld
+        requires { world.handed_out ≡ 0 }
         ensures { result ≡ record { world = world; found = []; seeds = seeds } }
     {
         RunningWorld {

@@ -55,6 +55,7 @@ pub struct ScriptSession {
 impl ScriptSession {
     /// A world whose session is not open yet, and whose searches try so many seeds.
     pub fn new(alloc: Global, seeds: u64, world: World) -> ScriptSession
+        requires { world.handed_out ≡ 0 }
         ensures { result ≡ record {
           running = record { world = world; found = []; seeds = seeds };
           session = None;

@@ -153,9 +153,13 @@ where
                 port,
                 workers,
                 sessions,
+                keep,
             },
         ) => {
-            let settings = Settings::new(workers, sessions);
+            let settings = Settings {
+                keep,
+                ..Settings::new(workers, sessions)
+            };
             fault_status(rt, serve_files(rt, design, policy, port, settings))
         }
         Ok(Command::Bundle) => run_status(rt, run_input(rt)),

@@ -2,7 +2,6 @@
 ghost use Rattle.std.specs.Prelude.{◌≡◌, [], IfOk};
 ghost use Rattle.vp_design.specs.Rendering.{plain_text};
 ghost use Rattle.vp_script.specs.Failure.{IsToldOr};
-ghost use Rattle.vp_script.specs.Scripts.{greatest};
 ghost use Rattle.vp_hub.specs.ServerFaults as server;
 
 use std::alloc::Global;
@@ -15,16 +14,24 @@ use vp_hub::{Closed, ServerError, Settings, serve};
 use vp_race::OpenGate;
 use vp_script::{Failure, ServeFault, SourceFiles, fresh_world};
 use vp_wire::WireError;
-use vp_world::{Limits, World};
+use vp_world::World;
+
+/// So many of the last entries of a log that is kept are left to users, once the simulation and its searches are refused.
+const FOR_USERS: usize = 61_440;
+
+/// So many after them to the operator and to closes.
+const FOR_OPERATOR: usize = 4_032;
+
+/// So many, the last, to closes.
+const FOR_CLOSES: usize = 64;
 
 /// A world of the files of a design and a policy, with the greatest limits, in which nothing has happened; or the first fault.
-#[tactic(auto, using(crate::proofs::Fresh::limits_of, crate::proofs::Fresh::log_of))]
+#[tactic(auto, using(crate::proofs::Fresh::log_of))]
 fn world_of_files<R: AllocGlobal + Files>(
     rt: &R,
     design: &str,
     policy: &str,
 ) -> Result<World, Failure>
-    ensures limits { IfOk result (λ world. world.opening.limits ≡ greatest) }
     ensures empty { IfOk result (λ world. world.log ≡ []) }
 {
     let alloc = rt.alloc();
@@ -72,25 +79,23 @@ where
 
 /// The number of entries of the log of a server that has ended.
 fn entry_count(closed: Closed) -> u64 {
-    let entries = closed.log().len() as u64;
+    let entries = closed.entry_count();
     // Dropped by a call, so that how it is dropped is no part of this function's proof.
     drop(closed);
     entries
 }
 
-/// Serves a world in which nothing has happened, with the greatest limits, to whoever connects to a listener, and gives the number of the log's
-/// entries at the end; or the fault of `vp_hub::serve`.
+/// Serves a world in which nothing has happened to whoever connects to a listener, and gives the number of the log's entries at the end; or
+/// the fault of `vp_hub::serve`.
 fn serve_world<R: AllocGlobal + Threads + Wait + Clock + Sync>(
     rt: &R,
     world: World,
     settings: Settings,
     listener: &TcpListener,
 ) -> Result<u64, Failure>
-    requires limits { world.opening.limits ≡ greatest }
     requires empty { world.log ≡ [] }
 {
-    let limits = Limits::GREATEST;
-    match serve(rt, rt.alloc(), world, limits, settings, listener, &OpenGate) {
+    match serve(rt, rt.alloc(), world, settings, listener, &OpenGate) {
         Ok(closed) => Ok(entry_count(closed)),
         Err(fault) => Err(failure_of(rt.alloc(), fault)),
     }
@@ -117,6 +122,10 @@ where
         + Sync,
 {
     let world = world_of_files(rt, design, policy)?;
+    let mut world = world;
+    if settings.keep {
+        world.leave_last(FOR_USERS, FOR_OPERATOR, FOR_CLOSES);
+    }
     match listen(rt, port) {
         Ok(listener) => {
             let entries = serve_world(rt, world, settings, &listener)?;

@@ -5,6 +5,7 @@ mod dialogues;
 mod endless;
 mod grant_log;
 mod grants;
+mod handed_out;
 mod hubs;
 mod limits;
 mod refusals;

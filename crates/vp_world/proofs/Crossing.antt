@@ -3,6 +3,7 @@ use denote.Param.Send.{IsSend, enum_send, sendable}
 use denote.Enum.Declared.{shape}
 use Rattle.std.proofs.Crossing.{crosses}
 use Rattle.vp_expr.proofs.change.Change.TheSendSync as change
+use Rattle.vp_history.proofs.history.History.TheSendSync as history
 use Rattle.vp_race.proofs.Crossing.{book_send, booked_send, booked_sync, recording_send}
 use Rattle.vp_vpi.proofs.session.Session.TheSendSync as session
 use Rattle.vp_answer.proofs.reply.Reply.TheSendSync as reply
@@ -53,4 +54,4 @@ entry_send = search (happening_send, sendable, crosses) depth 60 fits 5000
 
 -- and so may a world
 pub world_send : IsSend World.the_row
-world_send = search (recording_send, book_send, session.the_send, entry_send, sendable, crosses) depth 60 fits 5000
+world_send = search (recording_send, book_send, session.the_send, history.the_send, entry_send, sendable, crosses) depth 60 fits 5000

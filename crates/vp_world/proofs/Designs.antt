@@ -1,13 +1,14 @@
 -- The segments of a run are of its design.
-use Rattle.std.proofs.Common.{◌≡◌, ◌∙◌, ℕ, Bool, true, false, cond, List, [], ◌∷◌, ◌++◌, length, All, Option, Some, None, IfSome, refl, sym, ap, subst}
-use Rattle.std.specs.Prelude.{◌-◌, if◌then◌else◌, option_copied}
+use Rattle.std.proofs.Common.{◌≡◌, ◌∙◌, ℕ, Bool, true, false, cond, List, [], ◌∷◌, ◌++◌, All, Option, Some, None, IfSome, refl, sym, ap, subst}
+use Rattle.std.specs.Prelude.{if◌then◌else◌, option_copied}
 use Rattle.std.specs.List.{find}
-use Rattle.std.proofs.lemmas.List.Elements.{All-drop, All-head, All-push, All-tail}
+use Rattle.std.proofs.lemmas.List.Elements.{All-head, All-push, All-tail}
 use denote.Ref.{Bor}
 use Rattle.vp_bits.specs.declared.bit.Bit.{Bit}
 use Rattle.vp_elab.specs.Built.{Elaborated}
 use Rattle.vp_race.specs.Orders.{is_over}
-use Rattle.vp_race.specs.Recording.{Recorded, Segments, closed_run, kept_limit, kept_of, next_job, with_anew, with_step}
+use Rattle.vp_race.proofs.Within.{all_kept}
+use Rattle.vp_race.specs.Recording.{Recorded, Segments, closed_run, kept_of, next_job, with_anew, with_step}
 use Rattle.vp_race.specs.Segments.{Run}
 use Rattle.vp_sim.specs.States as sim
 use Rattle.vp_sim.specs.laws.Designs.{after_put, after_step}
@@ -51,7 +52,7 @@ goes_of old k next same of =
     let P : Run → Type 0 = λ run. run.start.design ≡ next.design in
     let runs = old.segments.kept ++ closed_run old.segments k ∷ [] in
     one_of (is_over next) next _ _
-    (record { opened = refl; kept = All-drop P (length runs - kept_limit) runs (All-push P old.segments.kept (closed_run old.segments k) kept opened) })
+    (record { opened = refl; kept = all_kept P runs (All-push P old.segments.kept (closed_run old.segments k) kept opened) })
     (record { opened = opened; kept = kept })
 
 -- after a step

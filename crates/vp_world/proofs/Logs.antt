@@ -1,15 +1,20 @@
 -- A log with one entry more.
-use Rattle.std.proofs.Common.{◌≡◌, ◌∙◌, Bool, List, [], ◌∷◌, ◌++◌, Option, Some, None, Result, Err, ℕ, refl, sym, ap, subst, append_assoc, append-nil}
-use Rattle.std.specs.Prelude.{fold}
+use Rattle.std.proofs.Common.{◌≡◌, ◌∙◌, ◌<◌, ◌-◌, Bool, true, false, List, [], ◌∷◌, ◌++◌, Option, Some, None, Result, Err, ℕ, refl, sym, ap, subst, append_assoc, append-nil}
+use Rattle.std.specs.Prelude.{◌||◌, fold, if◌then◌else◌, length, nat_le, nat_lt}
+use Rattle.std.proofs.lemmas.Bool.{leb-false}
 use Rattle.vp_world.specs.declared.error.WorldError.TheVariants as world_error
 use Rattle.vp_text.specs.Refusals.{Explains}
 use Rattle.vp_expr.specs.declared.change.Change.{Change}
+use Rattle.vp_answer.specs.OpenSessions.{index_of}
+use Rattle.vp_policy.specs.Regrants.{is_operator}
+use Rattle.vp_policy.specs.Users.{login_of, user_of}
 use Rattle.vp_world.specs.declared.event.Event.{Event}
+use Rattle.vp_world.specs.declared.event.Event.TheVariants as event
 use Rattle.vp_world.specs.declared.error.WorldError.{WorldError}
 use Rattle.vp_answer.specs.declared.reply.Reply.{Reply}
 use Rattle.vp_world.specs.Entries.{Entry}
 use Rattle.vp_world.specs.Events.{IsWellFormed}
-use Rattle.vp_world.specs.History.{Applies, IsLegal, Keeps, after, answer, changed, entry_of, refusal_after, refused_by, state_after, with_entry}
+use Rattle.vp_world.specs.History.{Applies, IsLegal, Keeps, after, answer, changed, entry_of, is_full, is_full_of, most_entries, refusal_after, refusal_of, refusal_of_grantee, refusal_of_open, refusal_of_session, refused_by, state_after, with_entry}
 use Rattle.vp_world.specs.Worlds.{WorldLog, Opening, WorldState, State, start}
 
 -- a left fold of one item more
@@ -58,6 +63,62 @@ keeps_more w next log more e keeps is added formed accepted entry =
       legal = legal_more w.opening [] log e keeps.legal formed accepted entry;
     }))
 
+-- a full log refuses every event
+full_refuses : (opening : Opening) (s : State) (e : Event) → refusal_of opening true s e ≡ None → ⊥
+full_refuses opening s (event.Open name token) h = by_login (login_of s.policy.members name token) h where
+  by_room : (b : Bool) → (if b then Some world_error.SessionsFull else Some world_error.LogFull) ≡ None → ⊥
+  by_room true f = absurd (cc)
+  by_room false f = absurd (cc)
+
+  by_login : (o : Option ℕ) → refusal_of_open opening true s o ≡ None → ⊥
+  by_login None f = absurd (cc)
+  by_login (Some u) f = by_room (is_full opening s u) f
+full_refuses opening s (event.Ask id query) h = by_index (index_of s.sessions id) h where
+  by_index : (o : Option ℕ) → refusal_of_session true o ≡ None → ⊥
+  by_index None f = absurd (cc)
+  by_index (Some index) f = absurd (cc)
+full_refuses opening s (event.Close id) h = by_index (index_of s.sessions id) h where
+  by_index : (o : Option ℕ) → refusal_of_session true o ≡ None → ⊥
+  by_index None f = absurd (cc)
+  by_index (Some index) f = absurd (cc)
+full_refuses opening s (event.Grant change) h = by_token (is_operator s.policy change.token) h where
+  by_envelope : (b : Bool) → (if b then Some world_error.NoSuchEnvelope else Some world_error.LogFull) ≡ None → ⊥
+  by_envelope true f = absurd (cc)
+  by_envelope false f = absurd (cc)
+
+  by_user : (o : Option ℕ) → refusal_of_grantee true s.policy change.envelope o ≡ None → ⊥
+  by_user None f = absurd (cc)
+  by_user (Some u) f = by_envelope (nat_lt (length s.policy.tree.authors) change.envelope) f
+
+  by_token : (b : Bool) → (if b then refusal_of_grantee true s.policy change.envelope (user_of s.policy.members change.user) else Some world_error.BadOperator) ≡ None → ⊥
+  by_token true f = by_user (user_of s.policy.members change.user) f
+  by_token false f = absurd (cc)
+full_refuses opening s (event.Step k) h = absurd (cc)
+full_refuses opening s event.Advance h = absurd (cc)
+full_refuses opening s event.TakeJob h = absurd (cc)
+full_refuses opening s (event.Book finding) h = absurd (cc)
+
+-- so a log is not full whose world accepts an event
+not_full : (opening : Opening) (full : Bool) (s : State) (e : Event) → refusal_of opening full s e ≡ None → full ≡ false
+not_full opening true s e h = absurd (full_refuses opening s e h)
+not_full opening false s e h = refl
+
+-- what is neither this nor that is not that
+pub second_not : (a b : Bool) → (a || b) ≡ false → b ≡ false
+second_not true b h = absurd (cc)
+second_not false b h = h
+
+-- and it has fewer entries than one gets
+pub has_few : (opening : Opening) (limit handed_out : ℕ) (log : List Entry) (s : State) (e : Event) → refusal_of opening (is_full_of limit handed_out log) s e ≡ None → length log < most_entries
+has_few opening limit handed_out log s e h =
+    leb-false most_entries (length log)
+    (second_not (nat_le limit (length log - handed_out)) (nat_le most_entries (length log)) (not_full opening (is_full_of limit handed_out log) s e h))
+
+-- an event that a world accepts is accepted by a log with room
+pub with_room : (opening : Opening) (full : Bool) (s : State) (e : Event) → refusal_of opening full s e ≡ None → refusal_of opening false s e ≡ None
+with_room opening true s e h = absurd (full_refuses opening s e h)
+with_room opening false s e h = h
+
 -- an event that is refused so leaves the world
 pub refused_so : {A : Type 0} (v : WorldLog) (happens : Event) (r : Result A WorldError) (e : WorldError) → r ≡ Err e → refused_by v happens ≡ Some e → Applies v happens r v
 refused_so v happens r e is told =
@@ -69,9 +130,10 @@ refused_so v happens r e is told =
       unchanged = refl;
     })
 
--- a world is seen with one entry more
-pub seen_more : (w next : WorldState) (log more : List Entry) (e : Entry) (v : WorldLog) → (let seen : WorldLog = record { opening = w.opening; log = log } in seen ≡ v) → next ≡ record { opening = w.opening; state = next.state } → more ≡ log ++ e ∷ [] → e ≡ entry_of w.opening (state_after w.opening log) e.event → (let now : WorldLog = record { opening = next.opening; log = more } in now ≡ with_entry v e.event)
-seen_more w next log more e v is same added entry =
-    ap (λ (s : WorldState). (let now : WorldLog = record { opening = s.opening; log = more } in now)) same
-    ∙ ap (λ (l : List Entry). (let now : WorldLog = record { opening = w.opening; log = l } in now)) (added ∙ ap (λ (x : Entry). log ++ x ∷ []) entry)
+-- a world is seen with one entry more, of which as much was handed out
+pub seen_more : (w next : WorldState) (log more : List Entry) (handed_out next_handed_out : ℕ) (e : Entry) (v : WorldLog) → (let seen : WorldLog = record { opening = w.opening; log = log; handed_out = handed_out } in seen ≡ v) → next ≡ record { opening = w.opening; state = next.state } → more ≡ log ++ e ∷ [] → next_handed_out ≡ handed_out → e ≡ entry_of w.opening (state_after w.opening log) e.event → (let now : WorldLog = record { opening = next.opening; log = more; handed_out = next_handed_out } in now ≡ with_entry v e.event)
+seen_more w next log more handed_out next_handed_out e v is same added held entry =
+    ap (λ (s : WorldState). (let now : WorldLog = record { opening = s.opening; log = more; handed_out = next_handed_out } in now)) same
+    ∙ ap (λ (l : List Entry). (let now : WorldLog = record { opening = w.opening; log = l; handed_out = next_handed_out } in now)) (added ∙ ap (λ (x : Entry). log ++ x ∷ []) entry)
+    ∙ ap (λ (n : ℕ). (let now : WorldLog = record { opening = w.opening; log = log ++ entry_of w.opening (state_after w.opening log) e.event ∷ []; handed_out = n } in now)) held
     ∙ ap (λ (x : WorldLog). with_entry x e.event) is

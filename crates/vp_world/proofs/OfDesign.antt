@@ -2,13 +2,14 @@
 use Rattle.std.proofs.Common.{◌≡◌, ◌∙◌, ◌-◌, ◌==◌, ℕ, Bool, true, false, if◌then◌else◌, List, [], ◌∷◌, ◌++◌, length, All, Option, Some, None, IfSome, fold, refl, subst}
 use Rattle.std.specs.Prelude.{slice_get}
 use Rattle.std.specs.Option.{option_map_or}
-use Rattle.std.proofs.lemmas.List.Elements.{All-drop, All-nil, All-push}
+use Rattle.std.proofs.lemmas.List.Elements.{All-nil, All-push}
 use Rattle.vp_bits.specs.declared.bit.Bit.{Bit}
 use Rattle.vp_elab.specs.Built.{Elaborated}
 use Rattle.vp_expr.specs.declared.change.Change.{Change}
 use Rattle.vp_policy.specs.Users.{login_of, user_of}
 use Rattle.vp_race.specs.Orders.{is_over}
-use Rattle.vp_race.specs.Recording.{Segments, closed_run, kept_limit, kept_of, next_job, with_anew, with_job, with_step}
+use Rattle.vp_race.proofs.Within.{all_kept}
+use Rattle.vp_race.specs.Recording.{Segments, closed_run, kept_of, next_job, with_anew, with_job, with_step}
 use Rattle.vp_race.specs.Segments.{Run}
 use Rattle.vp_sim.specs.States as sim
 use Rattle.vp_sim.specs.laws.Designs.{Leaves, advance_leaves, put_leaves, step_leaves}
@@ -46,7 +47,7 @@ step_more d run next segments k h same =
     let P : Run → Type 0 = λ r. r.start.design ≡ d in
     let runs = segments.kept ++ closed_run segments k ∷ [] in
     one_of d next (is_over next) _ _
-    (record { run_of = same; opened = same; kept = All-drop P (length runs - kept_limit) runs (All-push P segments.kept (closed_run segments k) h.kept h.opened) })
+    (record { run_of = same; opened = same; kept = all_kept P runs (All-push P segments.kept (closed_run segments k) h.kept h.opened) })
     (record { run_of = same; opened = h.opened; kept = h.kept })
 
 goes_on : (d : Elaborated) (s : State) (segments : sim.State → Segments) (o : sim.Outcome) → Leaves s.run.design o → ((next : sim.State) → next.design ≡ d → Own d next (segments next)) → IsOf d s → IsOf d (stepped s segments o)

@@ -17,7 +17,7 @@ use Rattle.vp_world.specs.declared.event.Event.TheVariants as event
 use Rattle.vp_answer.specs.declared.query.Query.{Query}
 use Rattle.vp_world.specs.Entries.{Entry}
 use Rattle.vp_world.specs.Events.{IsWellFormed}
-use Rattle.vp_world.specs.History.{IsLegal, IsReached, after, asked_at, book_refusal, closed_at, granted_to, is_log_full, opened_by, refusal_after, refusal_of, refusal_of_booking, state_asked, state_after, stepped}
+use Rattle.vp_world.specs.History.{IsLegal, IsReached, after, asked_at, book_refusal, closed_at, granted_to, opened_by, refusal_after, refusal_of, refusal_of_booking, state_asked, state_after, stepped}
 use Rattle.vp_world.specs.Worlds.{Opening, State}
 use Rattle.vp_answer.specs.OpenSessions.{OpenSessionState, index_of}
 use Rattle.vp_race.proofs.Carrying.{carried}
@@ -88,7 +88,7 @@ all_stay opening log e book all = All-weaker (IsReached opening log) (IsReached 
 -- the races after an event
 after_event :
     (opening : Opening) (log : List Entry) (e : Entry) (happens : Event) → IsWellFormed opening.design happens
-    → refusal_of opening (is_log_full opening log) (state_after opening log) happens ≡ None → All (IsReached opening log) (state_after opening log).book
+    → refusal_of opening false (state_after opening log) happens ≡ None → All (IsReached opening log) (state_after opening log).book
     → All (IsReached opening (log ++ e ∷ [])) (after opening (state_after opening log) happens).book
 after_event opening log e (event.Open name token) formed none all =
     let s = state_after opening log in
@@ -111,7 +111,7 @@ after_event opening log e event.Advance formed none all =
 after_event opening log e event.TakeJob formed none all = all_stay opening log e (state_after opening log).book all
 after_event opening log e (event.Book f) formed none all =
     let s = state_after opening log in
-    let there = kept_there (record { races = s.book; limits = opening.limits.book }) (kept_of s.segments f.segment.number) f (not_refused (is_log_full opening log) (book_refusal opening s f) none) in
+    let there = kept_there (record { races = s.book; limits = opening.limits.book }) (kept_of s.segments f.segment.number) f (not_refused false (book_refusal opening s f) none) in
     let new : IsReached opening (log ++ e ∷ []) f = record {
       before = log;
       rest = e ∷ [];

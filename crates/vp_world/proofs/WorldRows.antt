@@ -1,6 +1,6 @@
 -- A world, computed event by event. Each row is an equation that holds by computation.
-use Rattle.std.proofs.Common.{◌≡◌, ℕ, true, false, List, [], ◌∷◌, ◌++◌, Option, Some, None, refl}
-use Rattle.std.specs.Prelude.{codes, fold}
+use Rattle.std.proofs.Common.{◌≡◌, ℕ, Bool, true, false, List, [], ◌∷◌, ◌++◌, Option, Some, None, refl}
+use Rattle.std.specs.Prelude.{codes, fold, replicate}
 use Rattle.std.specs.Fmt.{digits}
 use Rattle.std.specs.Str.{chars, is_utf8}
 use Rattle.std.proofs.Math.Utf8.{encode}
@@ -37,7 +37,8 @@ use Rattle.vp_expr.specs.declared.change.Change.{Change}
 use Rattle.vp_sim.specs.declared.error.SimError.TheVariants as sim
 use Rattle.vp_world.specs.Entries.{Entry}
 use Rattle.vp_world.specs.Worlds.{Opening, State, start}
-use Rattle.vp_world.specs.History.{IsLegal, after, answer, refusal_of}
+use Rattle.vp_world.specs.History.{IsLegal, after, answer, is_log_full, refusal_of}
+use Rattle.vp_world.specs.declared.limits.Limits.{Limits}
 
 -- ---- one module with an envelope, one user, at most one session
 
@@ -116,7 +117,7 @@ abbrev opening : Opening
 opening = record {
   design = record { source = source; tree = tree };
   policy = record { tree = tree; members = ann ∷ []; operator = Some (codes "op") };
-  limits = record { log = 7; book = record { races = 65536; steps = 16777216 }; sessions = 1 };
+  limits = record { log = 7; for_users = 0; for_operator = 0; for_closes = 0; book = record { races = 65536; steps = 16777216 }; sessions = 1 };
 }
 
 abbrev first : SessionId
@@ -276,7 +277,7 @@ bob = record {
 }
 
 abbrev shared : Opening
-shared = record opening { policy = record { tree = tree; members = bob ∷ []; operator = Some (codes "op") }; limits = record { log = 7; book = record { races = 65536; steps = 16777216 }; sessions = 2 } }
+shared = record opening { policy = record { tree = tree; members = bob ∷ []; operator = Some (codes "op") }; limits = record opening.limits { sessions = 2 } }
 
 abbrev second : SessionId
 second = record { user = record { 0 = 0 }; opens = 2 }
@@ -336,3 +337,50 @@ legal :
     ∷ entry (event.Close first) reply.Done None ∷ [])
 unfolding digits is_utf8 chars encode sizes_in tables_of effect_at
 legal = (tt, refl, refl, (tt, refl, refl, (tt, refl, refl, (tt, refl, refl, (tt, refl, refl, tt)))))
+
+-- ---- full logs
+
+-- the log of a world with these limits is full for an event: of so many entries, of which the first were handed out
+abbrev is_full_with : Limits → (entries handed_out : ℕ) → Event → Bool
+is_full_with limits entries handed_out e =
+    is_log_full (record { opening = record opening { limits = limits }; log = replicate entries (entry event.Advance reply.Done None); handed_out = handed_out }) e
+
+-- seven entries are the limit: of those that are held
+six_held : is_full_with opening.limits 6 0 opens ≡ false
+six_held = refl
+
+seven_held : is_full_with opening.limits 7 0 opens ≡ true
+seven_held = refl
+
+seven_with_one_handed_out : is_full_with opening.limits 7 1 opens ≡ false
+seven_with_one_handed_out = refl
+
+fourteen_with_seven_handed_out : is_full_with opening.limits 14 7 (event.Close first) ≡ true
+fourteen_with_seven_handed_out = refl
+
+-- of ten entries four are left to users, two to the operator and closes, one to closes
+abbrev shares : Limits
+shares = record opening.limits { log = 10; for_users = 4; for_operator = 2; for_closes = 1 }
+
+steps_take_three : (is_full_with shares 2 0 (steps 0) ≡ false) × (is_full_with shares 3 0 (steps 0) ≡ true)
+steps_take_three = (refl, refl)
+
+advances_take_three : (is_full_with shares 2 0 event.Advance ≡ false) × (is_full_with shares 3 0 event.Advance ≡ true)
+advances_take_three = (refl, refl)
+
+jobs_take_three : (is_full_with shares 2 0 event.TakeJob ≡ false) × (is_full_with shares 3 0 event.TakeJob ≡ true)
+jobs_take_three = (refl, refl)
+
+users_take_seven : (is_full_with shares 6 0 (reads 1) ≡ false) × (is_full_with shares 7 0 (reads 1) ≡ true)
+users_take_seven = (refl, refl)
+
+openings_take_seven : (is_full_with shares 6 0 opens ≡ false) × (is_full_with shares 7 0 opens ≡ true)
+openings_take_seven = (refl, refl)
+
+grants_take_nine :
+    (is_full_with shares 8 0 (grants (codes "op") (codes "ann") 1 nothing) ≡ false)
+    × (is_full_with shares 9 0 (grants (codes "op") (codes "ann") 1 nothing) ≡ true)
+grants_take_nine = (refl, refl)
+
+closes_take_ten : (is_full_with shares 9 0 (event.Close first) ≡ false) × (is_full_with shares 10 0 (event.Close first) ≡ true)
+closes_take_ten = (refl, refl)

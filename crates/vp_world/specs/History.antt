@@ -1,5 +1,5 @@
 -- The world as a function of its events.
-use Rattle.std.specs.Prelude.{◌≡◌, ℕ, ◌+◌, ◌||◌, nat_le, nat_lt, max, Bool, true, false, if◌then◌else◌, List, [], ◌∷◌, ◌++◌, length, fold, map, slice_get, slice_index, slice_set, Option, Some, None, is_none, option_and_then, option_map, Result, IfErr, OnErr, OnOk}
+use Rattle.std.specs.Prelude.{◌≡◌, ℕ, ◌+◌, ◌-◌, ◌^◌, ◌||◌, nat_le, nat_lt, max, Bool, true, false, if◌then◌else◌, List, [], ◌∷◌, ◌++◌, length, fold, map, slice_get, slice_index, slice_set, Option, Some, None, is_none, option_and_then, option_map, Result, IfErr, OnErr, OnOk}
 use Rattle.std.specs.List.{remove}
 use Rattle.std.specs.Option.{option_map_or}
 use Rattle.vp_text.specs.Refusals.{Explains}
@@ -21,6 +21,7 @@ use Rattle.vp_world.specs.Entries.{Entry}
 use Rattle.vp_answer.specs.declared.request.GrantChange.{GrantChange}
 use Rattle.vp_answer.specs.declared.request.SessionId.{SessionId}
 use Rattle.vp_answer.specs.declared.query.Query.{Query}
+use Rattle.vp_world.specs.declared.limits.Limits.{Limits}
 use Rattle.vp_world.specs.declared.event.Event.{Event}
 use Rattle.vp_world.specs.declared.event.Event.TheVariants as event
 use Rattle.vp_world.specs.declared.error.WorldError.{WorldError}
@@ -84,6 +85,14 @@ is_next_past_goal None next = true
 is_next_past_goal (Some goal) None = false
 is_next_past_goal (Some goal) (Some t) = nat_lt goal t
 
+-- so many steps a time slot takes at most, from its beginning or from the last put in it on (profile)
+abbrev pub slot_limit : ℕ
+slot_limit = 4194304
+
+-- the time slot has as many steps as it takes
+abbrev pub is_slot_full : State → Bool
+is_slot_full s = nat_le slot_limit (length s.segments.opened.order)
+
 -- why a step or an advance is refused: a full log, a goal that does not reach so far, then the simulation's refusal (profile)
 abbrev pub refusal_of_step : Bool → Bool → sim.Outcome → Option WorldError
 refusal_of_step full beyond outcome =
@@ -103,14 +112,15 @@ book_refusal opening s f =
 abbrev pub refusal_of_booking : Bool → Option RaceError → Option WorldError
 refusal_of_booking full refusal = if full then Some error.LogFull else option_map error.Race refusal
 
--- the first refusal of an event that holds, in a state, after a log that is full or not; none where the event is accepted.
--- Out of memory is no part of it (profile)
+-- the first refusal of an event that holds, in a state, after a log that is full or not; none where the event is accepted. A step is refused in a
+-- full time slot as it is by a full log. Out of memory is no part of it (profile)
 abbrev pub refusal_of : Opening → Bool → State → Event → Option WorldError
 refusal_of opening full s (event.Open name token) = refusal_of_open opening full s (login_of s.policy.members name token)
 refusal_of opening full s (event.Ask id query) = refusal_of_session full (index_of s.sessions id)
 refusal_of opening full s (event.Close id) = refusal_of_session full (index_of s.sessions id)
 refusal_of opening full s (event.Grant change) = refusal_of_grant full s.policy change
-refusal_of opening full s (event.Step k) = refusal_of_step full (is_past_goal s.goal s.run.time) (sim.step s.run k)
+refusal_of opening full s (event.Step k) =
+    refusal_of_step (full || is_slot_full s) (is_past_goal s.goal s.run.time) (sim.step s.run k)
 refusal_of opening full s event.Advance =
     refusal_of_step full (is_next_past_goal s.goal (sim.next_time s.run)) (sim.advance s.run)
 refusal_of opening full s event.TakeJob = refusal_of_job full (next_job s.segments)
@@ -270,13 +280,9 @@ after opening s (event.Book finding) = with_booked s finding
 abbrev pub state_after : Opening → List Entry → State
 state_after opening log = fold (λ s e. after opening s e.event) (start opening) log
 
--- a log has as many entries as the limit allows (profile)
-abbrev pub is_log_full : Opening → List Entry → Bool
-is_log_full opening log = nat_le opening.limits.log (length log)
-
--- the refusal of an event after a log; none where it is accepted
+-- the refusal of an event after a log, by a world with room for it; none where it is accepted
 abbrev pub refusal_after : Opening → List Entry → Event → Option WorldError
-refusal_after opening log e = refusal_of opening (is_log_full opening log) (state_after opening log) e
+refusal_after opening log e = refusal_of opening false (state_after opening log) e
 
 -- the entry of an event that is accepted in a state: its reply, what it changed, and the time and $finish after it
 abbrev pub entry_of : Opening → State → Event → Entry
@@ -309,9 +315,49 @@ pub record Keeps (w : WorldState) (log : List Entry) : Type 0 where
 
 -- ---- a world, by its opening and its log
 
+-- so many entries a log holds at most where a grant is accepted: the last are left to closes (profile)
+abbrev pub limit_of_grants : Limits → ℕ
+limit_of_grants limits = limits.log - limits.for_closes
+
+-- where a request of a user is accepted: those before them are left to the operator too (profile)
+abbrev pub limit_of_users : Limits → ℕ
+limit_of_users limits = limit_of_grants limits - limits.for_operator
+
+-- where an event of the simulation or of its searches is accepted: those before them are left to users too (profile)
+abbrev pub limit_of_simulation : Limits → ℕ
+limit_of_simulation limits = limit_of_users limits - limits.for_users
+
+-- an opening by whose limits so many of the log's last entries are left to users, to the operator and to closes
+abbrev pub with_last_for : Opening → (for_users for_operator for_closes : ℕ) → Opening
+with_last_for opening for_users for_operator for_closes =
+    record opening { limits = record opening.limits { for_users = for_users; for_operator = for_operator; for_closes = for_closes } }
+
+-- so many entries a log holds at most where such an event is accepted
+abbrev pub limit_for : Limits → Event → ℕ
+limit_for limits (event.Open name token) = limit_of_users limits
+limit_for limits (event.Ask id query) = limit_of_users limits
+limit_for limits (event.Close id) = limits.log
+limit_for limits (event.Grant change) = limit_of_grants limits
+limit_for limits (event.Step k) = limit_of_simulation limits
+limit_for limits event.Advance = limit_of_simulation limits
+limit_for limits event.TakeJob = limit_of_simulation limits
+limit_for limits (event.Book finding) = limit_of_simulation limits
+
+-- so many entries a log gets at most (profile)
+abbrev pub most_entries : ℕ
+most_entries = 2 ^ 62
+
+-- a log is full of which so many entries were handed out: as many are held as the limit allows, or it has as many as a log gets (profile)
+abbrev pub is_full_of : (limit handed_out : ℕ) → List Entry → Bool
+is_full_of limit handed_out log = nat_le limit (length log - handed_out) || nat_le most_entries (length log)
+
+-- the log of a world is full for an event
+abbrev pub is_log_full : WorldLog → Event → Bool
+is_log_full w e = is_full_of (limit_for w.opening.limits e) w.handed_out w.log
+
 -- the refusal of an event by a world; none where it is accepted
 abbrev pub refused_by : WorldLog → Event → Option WorldError
-refused_by w e = refusal_after w.opening w.log e
+refused_by w e = refusal_of w.opening (is_log_full w e) (state_after w.opening w.log) e
 
 -- the reply of a world to an event that it accepts
 abbrev pub answered_by : WorldLog → Event → Reply

@@ -12,6 +12,12 @@ pub record LogState : Type 0 where
   pub entries : List Entry
   pub has_room : Bool
 
+-- all that has happened: the entries, how many of them were handed out, and whether there is room for one more
+pub record JournalState : Type 0 where
+  pub entries : List Entry
+  pub handed_out : ℕ
+  pub has_room : Bool
+
 -- in place of an entry where there is none
 abbrev pub no_entry : Entry
 no_entry = record { event = event.Advance; reply = reply.Done; change = None; time = 0; finished = false }

@@ -31,10 +31,11 @@ pub record WorldState : Type 0 where
   pub opening : Opening
   pub state : State
 
--- a world: how it began, and its log
+-- a world: how it began, its log, all that has happened since, and how many entries of it, the first, were handed out; the world holds the rest
 pub record WorldLog : Type 0 where
   pub opening : Opening
   pub log : List Entry
+  pub handed_out : ℕ
 
 -- a state in which nothing has happened: the opening policy is in force
 abbrev pub start : Opening → State

@@ -1,9 +1,11 @@
 //! The world: sessions of users over one design, changed by one event at a time, and the log of these events.
 #![tactic(auto)]
 
+mod archive;
 mod entry;
 mod error;
 mod event;
+mod journal;
 mod limits;
 mod live_world;
 mod log;
@@ -13,6 +15,7 @@ mod user_observer;
 mod watching;
 mod world;
 
+pub use archive::{Archive, CountingArchive, KeepingArchive};
 pub use entry::{Asked, Entry, LoggedEvent, Login};
 pub use error::WorldError;
 pub use event::Event;

@@ -9,7 +9,7 @@ ghost use Rattle.vp_sim.specs.declared.error.SimError.TheVariants as sim_error;
 ghost use Rattle.vp_world.specs.declared.event.Event.TheVariants as event;
 ghost use Rattle.vp_world.specs.declared.error.WorldError.TheVariants as world_error;
 ghost use Rattle.vp_answer.specs.declared.reply.Reply.TheVariants as reply;
-ghost use Rattle.vp_world.specs.History.{asked_at, asked_in, book_refusal, change_of, changed_in, closed_at, granted_to, is_past_goal, is_full, is_next_past_goal, later, next_session, raised, opened_by, refusal_in, refusal_of_job, refusal_of_log, refusal_of_outcome, refusal_of_session, refusal_of_step, advance_refusal, step_refusal, stepped, with_booked, with_job_taken, with_state};
+ghost use Rattle.vp_world.specs.History.{advance_refusal, asked_at, asked_in, book_refusal, change_of, changed_in, closed_at, granted_to, is_full, is_next_past_goal, is_past_goal, is_slot_full, later, next_session, opened_by, raised, refusal_in, refusal_of_job, refusal_of_log, refusal_of_outcome, refusal_of_session, refusal_of_step, step_refusal, stepped, with_booked, with_job_taken, with_last_for, with_state};
 ghost use Rattle.vp_answer.specs.OpenSessions.{index_of};
 ghost use Rattle.vp_world.specs.Worlds.{start};
 
@@ -27,6 +27,9 @@ use vp_policy::{Policy, UserId};
 use vp_race::{Book, BookedFinding, Finding, Recording, Segment};
 use vp_sim::{Checked, SimError};
 use vp_text::Shared;
+
+/// So many steps a time slot takes at most, from its beginning or from the last put in it on.
+const SLOT_LIMIT: usize = 4_194_304;
 
 /// A world without its log: a design with a policy, its simulation, and the sessions of its users. A contract sees how it began
 /// and its state.
@@ -179,11 +182,33 @@ impl LiveWorld {
         })
     }
 
-    /// The most entries of a log.
-    pub fn log_limit(&self) -> usize
-        ensures { result ≡ self.now.opening.limits.log }
+    /// How much the world holds at most.
+    pub fn limits(&self) -> &Limits
+        ensures { result.now ≡ self.now.opening.limits }
     {
-        self.limits.log
+        &self.limits
+    }
+
+    /// Leaves so many of the log's last entries to users, to the operator and to closes.
+    pub fn leave_last(&mut self, for_users: usize, for_operator: usize, for_closes: usize)
+        ensures { self.new ≡ record self.old {
+          opening = with_last_for self.old.opening for_users for_operator for_closes;
+        } }
+    {
+        self.limits = Limits {
+            for_users,
+            for_operator,
+            for_closes,
+            ..self.limits
+        };
+    }
+
+    /// The time slot has as many steps as it takes.
+    #[inline(always)]
+    pub fn is_slot_full(&self) -> bool
+        ensures { result ≡ is_slot_full self.now.state }
+    {
+        self.run.has_steps(SLOT_LIMIT)
     }
 
     /// The current time, in time units.

@@ -133,6 +133,15 @@ impl Log {
         self.records.len()
     }
 
+    /// Leaves no entry. The room for them stays.
+    pub(crate) fn clear(&mut self)
+        ensures { self.new.entries ≡ [] }
+    {
+        self.records.clear();
+        self.changes.clear();
+        self.others.clear();
+    }
+
     /// Makes room for one more entry.
     pub fn reserve(&mut self) -> Result<(), AllocError>
         ensures room { OnOk result (self.new.has_room ≡ true) }

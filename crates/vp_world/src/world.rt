@@ -1,4 +1,4 @@
-ghost use Rattle.std.specs.Prelude.{◌≡◌, [], option_copied, IfErr, IfOk, IfSome, IsOkUnless, None, OnOk, Some};
+ghost use Rattle.std.specs.Prelude.{◌≡◌, ◌≤◌, ◌||◌, [], false, true, drop, length, option_copied, IfErr, IfOk, IfSome, IsOkUnless, None, OnOk, Some};
 ghost use Rattle.std.specs.Arc.{arc_value};
 ghost use Rattle.std.specs.List.{All};
 ghost use Rattle.vp_policy.specs.PolicyState.{Fits};
@@ -7,11 +7,13 @@ ghost use Rattle.vp_world.specs.declared.error.WorldError.TheVariants.{NoMemory}
 ghost use Rattle.vp_race.specs.Recording.{kept_of, next_job};
 ghost use Rattle.vp_world.specs.Events.{IsWellFormed};
 ghost use Rattle.vp_world.specs.HiddenNames.{HidesAlike};
-ghost use Rattle.vp_world.specs.History.{Applies, IsLegal, IsReached, answered_by, is_log_full, refused_by, state_after};
+ghost use Rattle.vp_world.specs.History.{Applies, IsLegal, IsReached, answered_by, is_full_of, is_slot_full, limit_of_grants, limit_of_simulation, limit_of_users, most_entries, refused_by, state_after, with_last_for};
 
+use crate::archive::Archive;
 use crate::entry::{Asked, Entry, LoggedEvent, Login};
 use crate::error::WorldError;
 use crate::event::Event;
+use crate::journal::Journal;
 use crate::limits::Limits;
 use crate::live_world::LiveWorld;
 use crate::log::Log;
@@ -24,13 +26,13 @@ use vp_race::{BookedFinding, Finding, Segment};
 use vp_sim::Checked;
 use vp_text::{Shared, Text};
 
-/// A design with a policy, its simulation, the sessions of its users, and the log of what has happened. A contract sees how it
-/// began and its log, of which its state is a function.
+/// A design with a policy, its simulation, the sessions of its users, and the log of what has happened, of which it may have handed out the
+/// first entries. A contract sees how it began and its log, of which its state is a function, and how many entries were handed out.
 #[derive(Drop)]
 pub struct World {
     alloc: Global,
     present: LiveWorld,
-    log: Log,
+    log: Journal,
 }
 
 impl Model for World {
@@ -39,7 +41,11 @@ impl Model for World {
 
     ghost Value = { WorldLog };
 
-    ghost view = { λ w. record { opening = w.present.opening; log = w.log.entries } };
+    ghost view = { λ w. record {
+      opening = w.present.opening;
+      log = w.log.entries;
+      handed_out = w.log.handed_out;
+    } };
 
     ghost invariant = { λ w. Keeps w.present w.log.entries };
 }
@@ -61,6 +67,7 @@ impl World {
                 limits = limits;
               };
               log = [];
+              handed_out = 0;
             }) }
         ensures refused { IsOkUnless result NoMemory }
     {
@@ -68,23 +75,107 @@ impl World {
         Ok(World {
             alloc,
             present,
-            log: Log::new(alloc),
+            log: Journal::new(alloc),
         })
     }
 
-    /// What has happened, in order.
-    pub fn log(&self) -> &Log
-        ensures log { result.now.entries ≡ self.now.log }
-        ensures legal { IsLegal self.now.opening [] self.now.log }
+    /// Leaves so many of the log's last entries to users, so many after them to the operator and to closes, and so many, the last, to
+    /// closes: as if the world had opened with these limits.
+    pub fn leave_last(&mut self, for_users: usize, for_operator: usize, for_closes: usize)
+        requires { self.old.log ≡ [] }
+        ensures { self.new ≡ record self.old {
+          opening = with_last_for self.old.opening for_users for_operator for_closes;
+        } }
     {
-        &self.log
+        self.present.leave_last(for_users, for_operator, for_closes);
     }
 
-    /// The log has as many entries as it may.
-    fn is_full(&self) -> bool
-        ensures { result ≡ is_log_full self.now.opening self.now.log }
+    /// What has happened, in order, since entries were last handed out.
+    pub fn log(&self) -> &Log
+        ensures log { result.now.entries ≡ drop self.now.handed_out self.now.log }
+        ensures legal { IsLegal self.now.opening [] self.now.log }
     {
-        self.log.len() >= self.present.log_limit()
+        self.log.held()
+    }
+
+    /// How many entries the log has, those that were handed out among them.
+    pub fn entry_count(&self) -> u64
+        ensures count { result ≡ length self.now.log }
+        ensures few { length self.now.log ≤ most_entries }
+        ensures legal { IsLegal self.now.opening [] self.now.log }
+    {
+        self.log.len()
+    }
+
+    /// How many entries were handed out: the first of all that has happened.
+    pub fn handed_out(&self) -> u64
+        ensures handed_out { result ≡ self.now.handed_out }
+        ensures within { self.now.handed_out ≤ length self.now.log }
+    {
+        self.log.handed_out()
+    }
+
+    /// Hands out the entries that the log holds, all of them, after which it holds none; or reports that the archive refuses them, which
+    /// leaves world and archive as they were. To a contract the log is the same, and so is all that the world answers, but that its log
+    /// is full later. Takes no memory.
+    pub fn hand_out<A: Archive>(&mut self, archive: &mut A) -> bool
+        ensures taken { result ≡ true → A.takes archive.old
+            (drop self.old.handed_out self.old.log) archive.new }
+        ensures world { result ≡ true
+            → self.new ≡ record self.old { handed_out = length self.old.log } }
+        ensures refused { result ≡ false → archive.new ≡ archive.old }
+        ensures unchanged { result ≡ false → self.new ≡ self.old }
+    {
+        self.log.hand_out(archive)
+    }
+
+    /// The log has no room for a Step, an Advance, a TakeJob or a Book.
+    fn is_full_for_simulation(&self) -> bool
+        ensures { result ≡ is_full_of (limit_of_simulation self.now.opening.limits)
+            self.now.handed_out self.now.log }
+    {
+        self.log
+            .is_full(self.present.limits().limit_of_simulation())
+    }
+
+    /// The log has no room for a Step, or the time slot has as many as it takes.
+    fn is_full_for_step(&self) -> bool
+        ensures { result ≡ (is_full_of (limit_of_simulation self.now.opening.limits)
+            self.now.handed_out self.now.log
+            || is_slot_full (state_after self.now.opening self.now.log)) }
+    {
+        self.is_full_for_simulation() || self.is_slot_full()
+    }
+
+    /// The time slot has as many steps as it takes: the next is refused, until a put.
+    pub fn is_slot_full(&self) -> bool
+        ensures { result ≡ is_slot_full (state_after self.now.opening self.now.log) }
+    {
+        self.present.is_slot_full()
+    }
+
+    /// The log has no room for an Open or an Ask.
+    fn is_full_for_users(&self) -> bool
+        ensures { result ≡ is_full_of (limit_of_users self.now.opening.limits)
+            self.now.handed_out self.now.log }
+    {
+        self.log.is_full(self.present.limits().limit_of_users())
+    }
+
+    /// The log has no room for a Grant.
+    fn is_full_for_grants(&self) -> bool
+        ensures { result ≡ is_full_of (limit_of_grants self.now.opening.limits)
+            self.now.handed_out self.now.log }
+    {
+        self.log.is_full(self.present.limits().limit_of_grants())
+    }
+
+    /// The log has no room for a Close.
+    fn is_full_for_closes(&self) -> bool
+        ensures { result ≡ is_full_of self.now.opening.limits.log
+            self.now.handed_out self.now.log }
+    {
+        self.log.is_full(self.present.limits().log)
     }
 
     /// Why an Open of a user would be refused but for memory: the refusals of `apply`. Takes no memory.
@@ -94,16 +185,16 @@ impl World {
         ensures refused { IfErr result
             (λ e. refused_by self.now (event.Open user.now token.now) ≡ Some e) }
     {
-        self.present.admit(user, token, self.is_full())?;
+        self.present.admit(user, token, self.is_full_for_users())?;
         Ok(())
     }
 
     /// Lets an event happen, answers it, and adds it to the log. An Open is refused by a wrong name or token (1302), too many
     /// sessions (1301) or a full log (1304); an Ask and a Close by a session that is not open (1303) or a full log; a Grant by
     /// another token than the operator's (1310), a user (1311) or an envelope (1312) that is not there, or a full log; a Step and an
-    /// Advance by a full log, by a goal that does not reach so far (1305) or by the simulation (1308); a TakeJob by a full log or
-    /// where no kept segment is left to be handed out (1306); a Book by a full log or by the book (1309); and each when out of
-    /// memory (1307). A refusal leaves the world as it was. A name that is hidden from a session's user is answered as one that is not
+    /// Advance by a full log, and a Step by a full time slot (1304), by a goal that does not reach so far (1305) or by the simulation
+    /// (1308); a TakeJob by a full log or where no kept segment is left to be handed out (1306); a Book by a full log or by the book
+    /// (1309); and each when out of memory (1307). A refusal leaves the world as it was. A name that is hidden from a session's user is answered as one that is not
     /// there.
     #[tactic(auto, using(crate::proofs::HiddenNames::hides_if))]
     pub fn apply(&mut self, event: Event) -> Result<Reply, WorldError>
@@ -138,7 +229,7 @@ impl World {
     pub fn step(&mut self, k: u32) -> Result<(), WorldError>
         ensures { Applies self.old (event.Step k) result self.new }
     {
-        let full = self.is_full();
+        let full = self.is_full_for_step();
         self.present.check_goal(full)?;
         if let Err(missing_right) = self.log.reserve() {
             // The simulation's own refusal comes before out of memory.
@@ -157,7 +248,7 @@ impl World {
         ensures applied { Applies self.old event.TakeJob result self.new }
         ensures reply { IfOk result (λ reply. reply ≡ answered_by self.old event.TakeJob) }
     {
-        let full = self.is_full();
+        let full = self.is_full_for_simulation();
         self.present.check_job(full)?;
         self.log.reserve()?;
         let Some(number) = self.present.take_job() else {
@@ -177,7 +268,7 @@ impl World {
         ensures applied { Applies self.old (event.Book finding) result self.new }
         ensures reply { IfOk result (λ reply. reply ≡ answered_by self.old (event.Book finding)) }
     {
-        if self.is_full() {
+        if self.is_full_for_simulation() {
             return Err(WorldError::LogFull);
         }
         if let Err(missing_right) = self.log.reserve() {
@@ -233,7 +324,7 @@ impl World {
     pub fn advance(&mut self) -> Result<(), WorldError>
         ensures { Applies self.old event.Advance result self.new }
     {
-        let full = self.is_full();
+        let full = self.is_full_for_simulation();
         self.present.check_next_goal(full)?;
         if let Err(missing_right) = self.log.reserve() {
             self.present.check_advance()?;
@@ -254,7 +345,7 @@ impl World {
         ensures reply { IfOk result
             (λ reply. reply ≡ answered_by self.old (event.Open user token)) }
     {
-        let full = self.is_full();
+        let full = self.is_full_for_users();
         let number = self.present.admit(user.as_str(), token.as_str(), full)?;
         self.log.reserve()?;
         let login = Arc::new(self.alloc, Login { user, token })?;
@@ -273,7 +364,7 @@ impl World {
         ensures reply { IfOk result
             (λ reply. reply ≡ answered_by self.old (event.Ask session query)) }
     {
-        let full = self.is_full();
+        let full = self.is_full_for_users();
         let index = self.present.index(session, full)?;
         self.log.reserve()?;
         let asked = Arc::new(self.alloc, Asked { session, query })?;
@@ -292,7 +383,7 @@ impl World {
         ensures applied { Applies self.old (event.Close session) result self.new }
         ensures reply { IfOk result (λ reply. reply ≡ answered_by self.old (event.Close session)) }
     {
-        let full = self.is_full();
+        let full = self.is_full_for_closes();
         let index = self.present.index(session, full)?;
         self.log.reserve()?;
         self.present.close(index);
@@ -309,7 +400,7 @@ impl World {
         ensures applied { Applies self.old (event.Grant change) result self.new }
         ensures reply { IfOk result (λ reply. reply ≡ answered_by self.old (event.Grant change)) }
     {
-        let full = self.is_full();
+        let full = self.is_full_for_grants();
         let user = self.present.grantee(&change, full)?;
         self.log.reserve()?;
         let change = Arc::new(self.alloc, change)?;

@@ -21,7 +21,7 @@ use Rattle.vp_world.specs.Entries.{Entry}
 use Rattle.vp_world.specs.declared.event.Event.{Event}
 use Rattle.vp_world.specs.declared.event.Event.TheVariants as event
 use Rattle.vp_world.specs.declared.error.WorldError.TheVariants as error
-use Rattle.vp_world.specs.History.{IsLegal, after, entry_of, is_full, is_log_full, next_session, refusal_of, refusal_of_log, refusal_of_open, refusal_of_session, state_after}
+use Rattle.vp_world.specs.History.{IsLegal, after, entry_of, is_full, next_session, refusal_of, refusal_of_log, refusal_of_open, refusal_of_session, state_after}
 use Rattle.vp_world.specs.Worlds.{Opening, State, start}
 use Rattle.vp_answer.specs.OpenSessions.{OpenSessionState, index_of, is_session_within, notified_session}
 use Rattle.vp_replay.specs.Seen.{denied_seen}
@@ -237,13 +237,13 @@ items_taken opening design u before (e ∷ log) s known p at is h (formed, accep
     let item : i ≡ item_at opening u s known e.event = ap (item_of u s t known now) is_entry in
     let next : t ≡ state_after opening (before ++ e ∷ []) =
     ap (λ x. after opening x e.event) at ∙ sym (fold-append (λ x y. after opening x y.event) (start opening) before (e ∷ [])) in
-    let accepts : refusal_of opening (is_log_full opening before) s e.event ≡ None = ap (λ x. refusal_of opening (is_log_full opening before) x e.event) at ∙ accepted in
+    let accepts : refusal_of opening false s e.event ≡ None = ap (λ x. refusal_of opening false x e.event) at ∙ accepted in
     let within : AreWithin (part_after p (item_at opening u s known e.event)) =
     after_within p (item_at opening u s known e.event) (grant_renumbers opening design u s known p is e.event) h in
     let others =
     items_taken opening design u (before ++ e ∷ []) log t now (part_after p (item_at opening u s known e.event)) next (event_follows opening design u s known p is e.event).part within rest in
     item_taken p i.own_event i.granted i.change i.time i.finished i.race (items_from opening u t now log)
-    (ap (takes p) item ∙ event_taken opening design u s known p is h (is_log_full opening before) e.event accepts)
+    (ap (takes p) item ∙ event_taken opening design u s known p is h false e.event accepts)
     (ap (λ x. takes_all (part_after p x) (items_from opening u t now log)) item ∙ others)
 
 -- for every opening of a right design with a policy that fits it, every user and every legal log: what of the log goes to him is taken up by what he

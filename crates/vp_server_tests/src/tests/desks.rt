@@ -1,13 +1,14 @@
 //! A desk whose log is full.
-ghost use Rattle.std.specs.Prelude.{◌≡◌, ◌+◌, []};
+ghost use Rattle.std.specs.Prelude.{◌≡◌, ◌<◌, []};
+ghost use Rattle.vp_world.specs.History.{most_entries};
 
 use crate::tests::calls::refusal_of;
-use crate::tests::hubs::{CLOCKED, USERS, blank_of, world_of};
+use crate::tests::hubs::{CLOCKED, USERS, blank, world_of};
 use std::alloc::Global;
 use std::marker::Brand;
 use std::sync::ledger::Blank;
 use vp_answer::{Call, Query};
-use vp_hub::{Desk, History, NamesOpening, Pass};
+use vp_hub::{Desk, History, LogArchive, NamesOpening, Pass};
 use vp_text::Text;
 use vp_world::{Entry, Event, LoggedEvent, World};
 
@@ -71,13 +72,13 @@ fn refusals_of<L: NamesOpening>(
 ) -> Option<((u32, u32), [(u32, u32); 3], bool)>
     requires name { blank.name ≡ L.name }
     requires parts { blank.parts ≡ L.parts }
-    requires room { blank.parts ≡ world.opening.limits.log + 1 }
+    requires room { most_entries < blank.parts }
     requires opening { world.opening ≡ L.opening }
     requires empty { world.log ≡ [] }
     requires history { history.name ≡ L.history }
     requires begins { history.entries ≡ [] }
 {
-    let mut desk = Desk::<L>::new(alloc, blank, history, world);
+    let mut desk = Desk::<L>::new(alloc, blank, history, world, LogArchive::Keeping);
     let refusals = refusals_at(alloc, &mut desk);
     drop(desk);
     refusals
@@ -86,7 +87,7 @@ fn refusals_of<L: NamesOpening>(
 /// The same at a new desk whose log holds two entries.
 fn refusals(alloc: Global) -> Option<((u32, u32), [(u32, u32); 3], bool)> {
     let world = world_of(alloc, CLOCKED, USERS, 2)?;
-    refusals_of::<Brand>(alloc, blank_of(2), History::new(), world)
+    refusals_of::<Brand>(alloc, blank(), History::new(), world)
 }
 
 #[test]

@@ -1,8 +1,9 @@
 //! A session beside a simulation that never ends.
-ghost use Rattle.std.specs.Prelude.{◌≡◌, ◌+◌, []};
+ghost use Rattle.std.specs.Prelude.{◌≡◌, ◌<◌, []};
+ghost use Rattle.vp_world.specs.History.{most_entries};
 
 use crate::tests::calls::{close, open, order, refusal_of};
-use crate::tests::hubs::{ENDLESS, TWO_USERS, blank_of, world_of};
+use crate::tests::hubs::{ENDLESS, TWO_USERS, blank, world_of};
 use crate::tests::stage::Stage;
 use std::alloc::Global;
 use std::marker::Brand;
@@ -11,7 +12,7 @@ use std::sync::ledger::Blank;
 use std::thread;
 use std::thread::Threads;
 use vp_answer::{Call, Query};
-use vp_hub::{Closed, Desk, History, Hub, NamesOpening, Pass};
+use vp_hub::{Closed, Desk, History, Hub, LogArchive, NamesOpening, Pass};
 use vp_world::{Entry, Log, LoggedEvent, World};
 
 /// The log holds so many entries: enough that the simulation is not over before a thread that was woken comes to run.
@@ -72,13 +73,16 @@ fn end_anew_of<L: NamesOpening + Send + Sync, R: Threads + Wait + Sync>(
 ) -> Option<Ended>
     requires name { blank.name ≡ L.name }
     requires parts { blank.parts ≡ L.parts }
-    requires room { blank.parts ≡ world.opening.limits.log + 1 }
+    requires room { most_entries < blank.parts }
     requires opening { world.opening ≡ L.opening }
     requires empty { world.log ≡ [] }
     requires history { history.name ≡ L.history }
     requires begins { history.entries ≡ [] }
 {
-    let hub = Hub::<L>::new(alloc, Desk::<L>::new(alloc, blank, history, world));
+    let hub = Hub::<L>::new(
+        alloc,
+        Desk::<L>::new(alloc, blank, history, world, LogArchive::Keeping),
+    );
     let pass = open(rt, &hub, alloc, "ann", "t1")?;
     let pass = order(rt, &hub, pass, Query::Run { until: UNTIL })?;
     let stage = Stage::new(alloc, hub);
@@ -96,7 +100,7 @@ fn end_anew_of<L: NamesOpening + Send + Sync, R: Threads + Wait + Sync>(
 /// The same of a new hub.
 fn end_anew<R: Threads + Wait + Sync>(rt: &R, alloc: Global) -> Option<Ended> {
     let world = world_of(alloc, ENDLESS, TWO_USERS, ENTRIES)?;
-    end_anew_of::<Brand, R>(rt, alloc, blank_of(ENTRIES), History::new(), world)
+    end_anew_of::<Brand, R>(rt, alloc, blank(), History::new(), world)
 }
 
 /// An entry is of the simulation.

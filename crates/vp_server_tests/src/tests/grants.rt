@@ -1,9 +1,10 @@
 //! Grants beside a session of the user whose they are.
-ghost use Rattle.std.specs.Prelude.{◌≡◌, ◌+◌, []};
+ghost use Rattle.std.specs.Prelude.{◌≡◌, ◌<◌, []};
+ghost use Rattle.vp_world.specs.History.{most_entries};
 
 use crate::tests::calls::{ask, close, find, open, order, put, rest, value};
 use crate::tests::grant_log::{are_logged, are_right};
-use crate::tests::hubs::{CLOCKED, OPERATED, blank_of, world_of};
+use crate::tests::hubs::{CLOCKED, OPERATED, blank, world_of};
 use crate::tests::stage::Stage;
 use std::alloc::Global;
 use std::marker::Brand;
@@ -13,7 +14,7 @@ use std::thread;
 use std::thread::Threads;
 use std::time::Clock;
 use vp_answer::{GrantChange, Query, Reply};
-use vp_hub::{Closed, Desk, History, Hub, NamesOpening, Pass};
+use vp_hub::{Closed, Desk, History, Hub, LogArchive, NamesOpening, Pass};
 use vp_policy::Access;
 use vp_text::Text;
 use vp_world::{Entry, World};
@@ -152,13 +153,16 @@ fn end_anew_of<L: NamesOpening + Send + Sync, R: Threads + Wait + Clock + Sync>(
 ) -> Option<Ended>
     requires name { blank.name ≡ L.name }
     requires parts { blank.parts ≡ L.parts }
-    requires room { blank.parts ≡ world.opening.limits.log + 1 }
+    requires room { most_entries < blank.parts }
     requires opening { world.opening ≡ L.opening }
     requires empty { world.log ≡ [] }
     requires history { history.name ≡ L.history }
     requires begins { history.entries ≡ [] }
 {
-    let hub = Hub::<L>::new(alloc, Desk::<L>::new(alloc, blank, history, world));
+    let hub = Hub::<L>::new(
+        alloc,
+        Desk::<L>::new(alloc, blank, history, world, LogArchive::Keeping),
+    );
     let pass = begin(rt, &hub, alloc)?;
     let stage = Stage::new(alloc, hub);
     let (told, grants) = beside(rt, &stage, pass)?;
@@ -172,7 +176,7 @@ fn end_anew_of<L: NamesOpening + Send + Sync, R: Threads + Wait + Clock + Sync>(
 /// The same of a new hub.
 fn end_anew<R: Threads + Wait + Clock + Sync>(rt: &R, alloc: Global) -> Option<Ended> {
     let world = world_of(alloc, CLOCKED, OPERATED, ENTRIES)?;
-    end_anew_of::<Brand, R>(rt, alloc, blank_of(ENTRIES), History::new(), world)
+    end_anew_of::<Brand, R>(rt, alloc, blank(), History::new(), world)
 }
 
 #[test]

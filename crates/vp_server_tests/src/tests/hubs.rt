@@ -1,5 +1,6 @@
 //! Texts, policies, and worlds of them in which nothing has happened.
-ghost use Rattle.std.specs.Prelude.{◌≡◌, ◌+◌, [], IfSome};
+ghost use Rattle.std.specs.Prelude.{◌≡◌, ◌<◌, [], IfSome};
+ghost use Rattle.vp_world.specs.History.{most_entries};
 
 use std::alloc::Global;
 use std::sync::ledger::Blank;
@@ -36,6 +37,9 @@ endmodule
 /// A reg that changes at each time, for ever.
 pub const ENDLESS: &str =
     "module top; reg r; initial begin r = 0; forever #1 r = ~r; end endmodule";
+
+/// A process that goes round in its first time slot without an end.
+pub const SPINNING: &str = "module top; reg r; initial begin r = 0; forever r = ~r; end endmodule";
 
 /// A policy with three users: Ann and Bob may do all in the open text, Bob in the envelope too; Cem may find what stands in the open text.
 pub const USERS: &[u8] = b"{\"users\":[\
@@ -84,9 +88,9 @@ pub fn world_of(alloc: Global, text: &str, policy: &[u8], entries: u32) -> Optio
     world_with(alloc, text, policy, limits_of(entries))
 }
 
-/// A ledger for such a world: with a part for each entry, and one more.
-pub fn blank_of(entries: u32) -> Blank
-    ensures { result.parts ≡ entries + 1 }
+/// A ledger with a part for each entry that a log may get, and one more.
+pub fn blank() -> Blank
+    ensures { most_entries < result.parts }
 {
-    Blank::new(u64::from(entries) + 1)
+    Blank::new((1 << 62) + 1)
 }

@@ -1,14 +1,15 @@
 //! What a hub refuses.
-ghost use Rattle.std.specs.Prelude.{◌≡◌, ◌+◌, []};
+ghost use Rattle.std.specs.Prelude.{◌≡◌, ◌<◌, []};
+ghost use Rattle.vp_world.specs.History.{most_entries};
 
 use crate::tests::calls::{open, refusal_of};
-use crate::tests::hubs::{CLOCKED, USERS, blank_of, world_of};
+use crate::tests::hubs::{CLOCKED, USERS, blank, world_of};
 use std::alloc::Global;
 use std::marker::Brand;
 use std::sync::Wait;
 use std::sync::ledger::Blank;
 use vp_answer::{Call, Query};
-use vp_hub::{Desk, History, Hub, NamesOpening, Pass};
+use vp_hub::{Desk, History, Hub, LogArchive, NamesOpening, Pass};
 use vp_text::Text;
 use vp_world::{Entry, World};
 
@@ -56,13 +57,16 @@ fn refusals_of<L: NamesOpening, R: Wait>(
 ) -> Option<[(u32, u32); 3]>
     requires name { blank.name ≡ L.name }
     requires parts { blank.parts ≡ L.parts }
-    requires room { blank.parts ≡ world.opening.limits.log + 1 }
+    requires room { most_entries < blank.parts }
     requires opening { world.opening ≡ L.opening }
     requires empty { world.log ≡ [] }
     requires history { history.name ≡ L.history }
     requires begins { history.entries ≡ [] }
 {
-    let hub = Hub::<L>::new(alloc, Desk::<L>::new(alloc, blank, history, world));
+    let hub = Hub::<L>::new(
+        alloc,
+        Desk::<L>::new(alloc, blank, history, world, LogArchive::Keeping),
+    );
     let opening = opening(rt, &hub, alloc)?;
     let (pass, calling) = calling(rt, &hub, alloc)?;
     Some([opening, calling, closing(rt, hub, alloc, pass)?])
@@ -71,7 +75,7 @@ fn refusals_of<L: NamesOpening, R: Wait>(
 /// The same of a new hub.
 fn refusals_anew<R: Wait>(rt: &R, alloc: Global) -> Option<[(u32, u32); 3]> {
     let world = world_of(alloc, CLOCKED, USERS, 16)?;
-    refusals_of::<Brand, R>(rt, alloc, blank_of(16), History::new(), world)
+    refusals_of::<Brand, R>(rt, alloc, blank(), History::new(), world)
 }
 
 #[test]

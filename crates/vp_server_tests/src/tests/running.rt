@@ -21,6 +21,9 @@ endmodule
 /// A world whose log has room for some hundred thousand events, which take longer than a client on a busy machine is kept waiting.
 const SMALL: Limits = Limits {
     log: 400_000,
+    for_users: 0,
+    for_operator: 0,
+    for_closes: 0,
     book: BookLimits {
         races: 16,
         steps: 1_000,
@@ -58,9 +61,13 @@ fn ask_beside<R: Net<Stream = TcpStream> + Clock>(rt: &R, alloc: Global, port: u
 #[test]
 fn an_endless_simulation(rt: HostRuntime) {
     let alloc = rt.alloc();
+    let settings = Settings {
+        keep: true,
+        ..Settings::new(2, 1)
+    };
     let server = Server {
         limits: SMALL,
-        ..Server::new(24_140, Settings::new(2, 1))
+        ..Server::new(24_140, settings)
     };
     let (told, asked) = beside(
         &rt,

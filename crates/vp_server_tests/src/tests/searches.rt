@@ -1,8 +1,9 @@
 //! A search for races beside a session.
-ghost use Rattle.std.specs.Prelude.{◌≡◌, ◌+◌, []};
+ghost use Rattle.std.specs.Prelude.{◌≡◌, ◌<◌, []};
+ghost use Rattle.vp_world.specs.History.{most_entries};
 
 use crate::tests::calls::{close, find, open, order, read};
-use crate::tests::hubs::{SWAPPED, TWO_USERS, blank_of, world_of};
+use crate::tests::hubs::{SWAPPED, TWO_USERS, blank, world_of};
 use std::alloc::Global;
 use std::marker::Brand;
 use std::sync::Wait;
@@ -13,7 +14,7 @@ use std::thread::Threads;
 use std::time::{Clock, Duration};
 use vp_answer::Query;
 use vp_bits::Bits;
-use vp_hub::{Desk, History, Hub, NamesOpening, Pass, Ran, Worked};
+use vp_hub::{Desk, History, Hub, LogArchive, NamesOpening, Pass, Ran, Worked};
 use vp_race::{Gate, OpenGate};
 use vp_world::{Entry, World};
 
@@ -143,14 +144,17 @@ fn work_of<L: NamesOpening + Send + Sync, R: Threads + Wait + Clock + Copy + Sen
 ) -> Option<(Ran, [Worked; 3])>
     requires name { blank.name ≡ L.name }
     requires parts { blank.parts ≡ L.parts }
-    requires room { blank.parts ≡ world.opening.limits.log + 1 }
+    requires room { most_entries < blank.parts }
     requires opening { world.opening ≡ L.opening }
     requires empty { world.log ≡ [] }
     requires history { history.name ≡ L.history }
     requires begins { history.entries ≡ [] }
 {
     let search = HeldSearch {
-        hub: Hub::<L>::new(alloc, Desk::<L>::new(alloc, blank, history, world)),
+        hub: Hub::<L>::new(
+            alloc,
+            Desk::<L>::new(alloc, blank, history, world, LogArchive::Keeping),
+        ),
         gate: held_gate(*rt),
     };
     let (pass, ran, jobs) = work(rt, &search, alloc)?;
@@ -164,7 +168,7 @@ fn work_anew<R: Threads + Wait + Clock + Copy + Send + Sync>(
     alloc: Global,
 ) -> Option<(Ran, [Worked; 3])> {
     let world = world_of(alloc, SWAPPED, TWO_USERS, ENTRIES)?;
-    work_of::<Brand, R>(rt, alloc, blank_of(ENTRIES), History::new(), world)
+    work_of::<Brand, R>(rt, alloc, blank(), History::new(), world)
 }
 
 /// What a job comes to.

@@ -1,5 +1,4 @@
 //! Servers of worlds of texts.
-ghost use Rattle.std.specs.Prelude.{◌<◌, ◌^◌};
 
 use crate::tests::hubs::world_with;
 use std::alloc::Global;
@@ -27,9 +26,7 @@ pub struct Server {
 
 impl Server {
     /// A server whose world has the greatest limits.
-    pub fn new(port: u16, settings: Settings) -> Server
-        ensures room { result.limits.log < 2 ^ 32 }
-    {
+    pub fn new(port: u16, settings: Settings) -> Server {
         Server {
             limits: Limits::GREATEST,
             port,
@@ -40,11 +37,10 @@ impl Server {
 
 /// How many entries the log of a server of a text has at its end; or the number of its fault, or 0 where there is no world, or where it can't
 /// listen on its port.
-fn served<R, G>(rt: &R, alloc: Global, text: &str, server: Server, gate: &G) -> Result<usize, u32>
+fn served<R, G>(rt: &R, alloc: Global, text: &str, server: Server, gate: &G) -> Result<u64, u32>
 where
     R: Net<Listener = TcpListener, Stream = TcpStream> + Threads + Wait + Clock + Sync,
     G: Gate + Sync,
-    requires room { server.limits.log < 2 ^ 32 }
 {
     let Server {
         limits,
@@ -58,9 +54,9 @@ where
         drop(world);
         return Err(0);
     };
-    match serve(rt, alloc, world, limits, settings, &listener, gate) {
+    match serve(rt, alloc, world, settings, &listener, gate) {
         Ok(closed) => {
-            let entries = closed.log().len();
+            let entries = closed.entry_count();
             drop(closed);
             Ok(entries)
         }
@@ -76,19 +72,16 @@ pub fn beside<R, G, C, T>(
     server: Server,
     gate: &G,
     clients: C,
-) -> (Result<usize, u32>, T)
+) -> (Result<u64, u32>, T)
 where
     R: Net<Listener = TcpListener, Stream = TcpStream> + Threads + Wait + Clock + Sync,
     G: Gate + Sync,
     C: FnOnce() -> T,
-    requires room { server.limits.log < 2 ^ 32 }
     requires clients { C.pre clients }
 {
     join(
         rt,
-        move || -> Result<usize, u32>
-            requires room { server.limits.log < 2 ^ 32 }
-        { served(rt, alloc, text, server, gate) },
+        move || -> Result<u64, u32> { served(rt, alloc, text, server, gate) },
         clients,
     )
 }

@@ -1,8 +1,9 @@
 //! Two sessions of one user on two threads.
-ghost use Rattle.std.specs.Prelude.{◌≡◌, ◌+◌, []};
+ghost use Rattle.std.specs.Prelude.{◌≡◌, ◌<◌, []};
+ghost use Rattle.vp_world.specs.History.{most_entries};
 
 use crate::tests::calls::{find, open, order, put, read, rest};
-use crate::tests::hubs::{CLOCKED, USERS, blank_of, world_of};
+use crate::tests::hubs::{CLOCKED, USERS, blank, world_of};
 use crate::tests::stage::Stage;
 use std::alloc::Global;
 use std::marker::Brand;
@@ -14,7 +15,7 @@ use std::time::Clock;
 use vp_answer::{Query, Reply, SessionId};
 use vp_bits::Bits;
 use vp_elab::ObjectId;
-use vp_hub::{Closed, Desk, History, Hub, NamesOpening, Pass};
+use vp_hub::{Closed, Desk, History, Hub, LogArchive, NamesOpening, Pass};
 use vp_text::Sequence;
 use vp_vpi::PutValue;
 use vp_world::{Entry, Log, LoggedEvent, World};
@@ -140,7 +141,7 @@ fn end_anew_of<L: NamesOpening + Send + Sync, R: Threads + Wait + Clock + Sync>(
 ) -> Option<Ended>
     requires name { blank.name ≡ L.name }
     requires parts { blank.parts ≡ L.parts }
-    requires room { blank.parts ≡ world.opening.limits.log + 1 }
+    requires room { most_entries < blank.parts }
     requires opening { world.opening ≡ L.opening }
     requires empty { world.log ≡ [] }
     requires history { history.name ≡ L.history }
@@ -148,7 +149,10 @@ fn end_anew_of<L: NamesOpening + Send + Sync, R: Threads + Wait + Clock + Sync>(
 {
     let stage = Stage::new(
         alloc,
-        Hub::<L>::new(alloc, Desk::<L>::new(alloc, blank, history, world)),
+        Hub::<L>::new(
+            alloc,
+            Desk::<L>::new(alloc, blank, history, world, LogArchive::Keeping),
+        ),
     );
     let (first, second) = of_ann(rt, &stage)?;
     end(stage.into_hub(), alloc, first, second)
@@ -157,7 +161,7 @@ fn end_anew_of<L: NamesOpening + Send + Sync, R: Threads + Wait + Clock + Sync>(
 /// The same of a new hub.
 fn end_anew<R: Threads + Wait + Clock + Sync>(rt: &R, alloc: Global) -> Option<Ended> {
     let world = world_of(alloc, CLOCKED, USERS, ENTRIES)?;
-    end_anew_of::<Brand, R>(rt, alloc, blank_of(ENTRIES), History::new(), world)
+    end_anew_of::<Brand, R>(rt, alloc, blank(), History::new(), world)
 }
 
 /// The value that a query gives `c`, if it is a put.
@@ -270,7 +274,7 @@ fn counts(ended: &Ended, receipts: &[Sequence<usize>], number: usize) -> Option<
 /// The same of both sessions, in the order in which they were opened, and whether the design changed `c` beside them.
 fn all_counts(alloc: Global, ended: &Ended) -> Option<([(usize, usize); 2], bool)> {
     let is_changed = is_changed_by_design(ended.closed.log());
-    let receipts = ended.closed.receipts(alloc).ok()?;
+    let receipts = ended.closed.receipts(alloc).ok()??;
     let receipts = receipts.as_slice();
     if receipts.len() != 2 {
         return None;

@@ -66,10 +66,12 @@ fn asked(alloc: Global, line: &str) -> &'static str {
                 port,
                 workers,
                 sessions,
+                keep,
             },
-        ) if design == "d.v" && policy == "p.json" => match (port, workers, sessions) {
-            (7, 2, 0) => "serve",
-            (65_535, 16, 4_294_967_295) => "serve most",
+        ) if design == "d.v" && policy == "p.json" => match (port, workers, sessions, keep) {
+            (7, 2, 0, false) => "serve",
+            (7, 2, 0, true) => "serve kept",
+            (65_535, 16, 4_294_967_295, false) => "serve most",
             _ => "serve other",
         },
         Ok(Command::Show(_)) => "show",
@@ -80,7 +82,7 @@ fn asked(alloc: Global, line: &str) -> &'static str {
 
 #[test]
 fn command_lines(rt: HostRuntime) {
-    let rows: [(&str, &str); 37] = [
+    let rows: [(&str, &str); 38] = [
         ("vp_served", "bundle"),
         ("vp_served run d.v p.json", "run"),
         ("vp_served run d.v p.json --seeds 16", "run"),
@@ -112,6 +114,7 @@ fn command_lines(rt: HostRuntime) {
         ("vp_served audit d.v p.json", "misuse"),
         ("vp_served audit d.v p.json ann q", "misuse"),
         ("vp_served serve d.v p.json --port 7", "serve"),
+        ("vp_served serve d.v p.json --port 7 --keep", "serve kept"),
         (
             "vp_served serve d.v p.json --port=65535 --workers 16 --sessions 4294967295",
             "serve most",

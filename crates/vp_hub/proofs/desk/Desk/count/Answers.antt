@@ -24,8 +24,8 @@ invariant_of-self-2 g c =
     let w = old.world in
     let x : Entry = entry_of w.opening (state_after w.opening w.log) c.args.event in
     let logged = (c.in_ok-reply.ensures {u = tt}).applied.logged in
-    let d : Desked = record { world = w; total = old.calls.total; parts = old.rest.parts; passes_out = old.passes_out.items; handed_back = old.handed_back.entries } in
-    let next : Desked = record { world = c.apply.new.self; total = c.audit.new.self.total; parts = old.rest.parts; passes_out = old.passes_out.items; handed_back = old.handed_back.entries } in
+    let d : Desked = record { world = w; total = old.calls.total; parts = old.rest.parts; passes_out = old.passes_out.items; handed_back = old.handed_back.entries; archive = old.archive } in
+    let next : Desked = record { world = c.apply.new.self; total = c.audit.new.self.total; parts = old.rest.parts; passes_out = old.passes_out.items; handed_back = old.handed_back.entries; archive = old.archive } in
     let one = ap {B = ℕ} (λ b. cond b 1 0) c.requires.session in
     record {
       desk = desk_on _ _ old.rest.amount d next x c.self.invariant.desk logged (omega (arith, one, c.add.ensures.total, c.audit.ensures.total)) refl refl refl;

@@ -13,8 +13,8 @@ pub invariant_of-self : goal.invariant_of-self
 invariant_of-self g c =
     let old = c.self.inside in
     let n = c.in-Some.place in
-    let d : Desked = record { world = old.world; total = old.calls.total; parts = old.rest.parts; passes_out = old.passes_out.items; handed_back = old.handed_back.entries } in
-    let next : Desked = record { world = old.world; total = old.calls.total; parts = c.merge.new.self.parts; passes_out = c.remove.new.self.items; handed_back = c.push.new.self.entries } in
+    let d : Desked = record { world = old.world; total = old.calls.total; parts = old.rest.parts; passes_out = old.passes_out.items; handed_back = old.handed_back.entries; archive = old.archive } in
+    let next : Desked = record { world = old.world; total = old.calls.total; parts = c.merge.new.self.parts; passes_out = c.remove.new.self.items; handed_back = c.push.new.self.entries; archive = old.archive } in
     let its = c.pass.inside in
     let p : Passed = record { session = its.session; indexes = its.indexes.entries; seen = its.seen.entries; amount = its.share.amount; parts = its.share.parts } in
     let keeps = c.pass.invariant.keeps in
@@ -49,6 +49,7 @@ returns-clause-returned g c =
             parts = c.merge.ensures.parts i;
             passes_out = c.remove.ensures.items i;
             handed_back = c.push.ensures.1 i;
+            archive = old.archive;
           })
           ∙ ap (λ (x : Desked × Passed). let d : Desked = x.0 in let p : Passed = x.1 in record d { parts = d.parts + p.parts; passes_out = remove d.passes_out n; handed_back = d.handed_back ++ c.args.pass ∷ [] }) (λ i. (c.self.view_is i, c.pass.view_is i));
     }

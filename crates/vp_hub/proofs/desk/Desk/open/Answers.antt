@@ -35,7 +35,7 @@ invariant_of-result g c =
     let happens : Event = event.Open c.args.user c.args.token in
     let e : Entry = entry_of w.opening (state_after w.opening w.log) happens in
     let yes = c.in_ok-reply.ensures {u = tt} in
-    let at : c.len-index.result ≡ length w.log = c.len-index.ensures ∙ ap (λ (l : List Entry). length l) c.log.ensures.log in
+    let at : c.entry_count-index.result ≡ length w.log = c.entry_count-index.ensures.count in
     let indexes : c.push.new.self.entries ≡ length w.log ∷ [] = c.push.ensures.1 ∙ (λ i. c.new-indexes.ensures i ++ at i ∷ []) in
     let sees : c.front.result.entries ≡ w.log ++ e ∷ [] =
     c.front.ensures.2 ∙ c.advance.ensures.1 ∙ ap (λ (x : WorldLog). x.log) yes.applied.logged in
@@ -75,11 +75,11 @@ invariant_of-self-2 g c =
     let yes = c.in_ok-reply.ensures {u = tt} in
     let logged = yes.applied.logged in
     let answered : e.reply ≡ reply.Opened id = sym yes.reply ∙ c.in-Opened.is in
-    let anew = opened_anew w.opening w.log c.args.user c.args.token id c.log.ensures.legal answered in
+    let anew = opened_anew w.opening w.log c.args.user c.args.token id c.entry_count-index.ensures.legal answered in
     let opens : opened_in happens e.reply ≡ Some id = ap (λ (r : Reply). opened_in happens r) answered in
     let out : c.push_reserved.new.self.items ≡ old.passes_out.items ++ id ∷ [] = c.push_reserved.ensures.items ∙ ap (λ (ids : List SessionId). ids ++ id ∷ []) c.reserve.ensures.items in
-    let d : Desked = record { world = w; total = old.calls.total; parts = old.rest.parts; passes_out = old.passes_out.items; handed_back = old.handed_back.entries } in
-    let next : Desked = record { world = c.apply.new.self; total = c.add.new.self.total; parts = c.split_off-share.new.self.parts; passes_out = c.push_reserved.new.self.items; handed_back = old.handed_back.entries } in
+    let d : Desked = record { world = w; total = old.calls.total; parts = old.rest.parts; passes_out = old.passes_out.items; handed_back = old.handed_back.entries; archive = old.archive } in
+    let next : Desked = record { world = c.apply.new.self; total = c.add.new.self.total; parts = c.split_off-share.new.self.parts; passes_out = c.push_reserved.new.self.items; handed_back = old.handed_back.entries; archive = old.archive } in
     let amount : c.split_off-share.new.self.amount ≡ old.rest.amount = omega (arith, c.split_off-share.ensures.amount_left) in
     record {
       desk = desk_out _ _ old.rest.amount c.split_off-share.new.self.amount d next e id c.self.invariant.desk logged refl c.add.ensures.total c.split_off-share.ensures.parts_left out refl amount;

@@ -6,7 +6,7 @@ use Rattle.vp_text.specs.Refusals.{Explains}
 use Rattle.vp_race.specs.Booking.{refusal_of_finding}
 use Rattle.vp_race.specs.declared.book_limits.BookLimits.{BookLimits}
 use Rattle.vp_race.specs.Recording.{kept_of}
-use Rattle.vp_race.specs.Segments.{Run, FindingState}
+use Rattle.vp_race.specs.Segments.{Run}
 use Rattle.vp_world.specs.declared.error.WorldError.TheVariants.{Race}
 use Rattle.vp_world.specs.Faults.{error_of_race}
 use Rattle.vp_world.specs.History.{book_refusal}

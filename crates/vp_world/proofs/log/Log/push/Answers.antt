@@ -1,4 +1,4 @@
-use Rattle.std.proofs.Common.{◌++◌, ◌∙◌, ◌∷◌, [], sym, ap, refl}
+use Rattle.std.proofs.Common.{◌++◌, ◌∙◌, ◌∷◌, [], sym, ap}
 use Rattle.std.proofs.lemmas.List.{append-nil}
 use Rattle.vp_world.specs.declared.log.Record.TheVariants as record_of
 use Rattle.vp_world.specs.LogRecords.{LogState}

@@ -1,4 +1,4 @@
-use Rattle.std.proofs.Common.{◌≡◌, ◌<◌, List, length, subst, ◌++◌, ◌∙◌, ◌∷◌, [], sym, ap, refl}
+use Rattle.std.proofs.Common.{◌≡◌, ◌<◌, List, length, subst, ◌++◌, ◌∙◌, ◌∷◌, [], sym, ap}
 use Rattle.std.specs.Prelude.{IfSome, slice_get}
 use Rattle.std.proofs.lemmas.List.{append-nil}
 use Rattle.std.specs.Option.{option_to_list}

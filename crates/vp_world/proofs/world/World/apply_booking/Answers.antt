@@ -7,7 +7,7 @@ use Rattle.vp_answer.specs.declared.reply.Reply.TheVariants as reply
 use Rattle.vp_world.specs.History.{after, entry_of, refusal_after, state_after, with_booked, with_state}
 use Rattle.vp_world.specs.Events.{IsWellFormed}
 use Rattle.vp_world.specs.Worlds.{WorldLog, WorldState}
-use Rattle.vp_world.proofs.Logs.{entry_is, keeps_more, seen_more}
+use Rattle.vp_world.proofs.Logs.{entry_is, keeps_more, seen_more, with_room}
 use Rattle.vp_world.proofs.world.World.apply_booking.Goals as goal
 
 module _ (c : goal.After-drop-finding-inside-2) where
@@ -43,7 +43,7 @@ module _ (c : goal.After-drop-finding-inside-2) where
 
 pub invariant_of-self-2 : goal.invariant_of-self-2
 invariant_of-self-2 c =
-    let accepted : refusal_after (w c).opening (log c) (happens c) ≡ None = search rules in
+    let accepted : refusal_after (w c).opening (log c) (happens c) ≡ None = with_room (w c).opening c.is_full_for_simulation.result (state_after (w c).opening (log c)) (happens c) (search rules) in
     let formed : IsWellFormed (w c).opening.design (happens c) = subst (λ (v : WorldLog). IsWellFormed v.opening.design (happens c)) (sym c.self.view_is) c.requires in
     keeps_more (w c) c.book.new.self (log c) c.push.new.self.entries (entry c) c.self.invariant (following c) (added c) formed accepted (made c)
 
@@ -51,8 +51,8 @@ pub returns-clause-applied : goal.returns-clause-applied
 returns-clause-applied c = record {
   accepted = search rules;
   logged =
-      seen_more (w c) c.book.new.self (log c) c.push.new.self.entries (entry c) c.args.self.now c.self.view_is
-      (following c ∙ ap (λ (s : WorldState). with_state (w c) s.state) (sym (following c))) (added c) (made c);
+      seen_more (w c) c.book.new.self (log c) c.push.new.self.entries c.self.inside.log.handed_out c.push.new.self.handed_out (entry c) c.args.self.now c.self.view_is
+      (following c ∙ ap (λ (s : WorldState). with_state (w c) s.state) (sym (following c))) (added c) (c.push.ensures.handed_out ∙ c.reserve.ensures.handed_out) (made c);
   refused = tt;
   unchanged = tt;
 }

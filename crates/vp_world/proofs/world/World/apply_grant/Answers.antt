@@ -8,7 +8,7 @@ use Rattle.vp_world.specs.declared.event.Event.TheVariants as event
 use Rattle.vp_answer.specs.declared.reply.Reply.TheVariants as reply
 use Rattle.vp_world.specs.History.{after, entry_of, granted_to, refusal_after, state_after, with_state}
 use Rattle.vp_world.specs.Worlds.{WorldState}
-use Rattle.vp_world.proofs.Logs.{entry_is, keeps_more}
+use Rattle.vp_world.proofs.Logs.{entry_is, keeps_more, with_room}
 use Rattle.vp_world.proofs.world.World.apply_grant.Goals as goal
 
 module _ (c : goal.After-push) where
@@ -44,5 +44,5 @@ module _ (c : goal.After-push) where
 
 pub invariant_of-self-2 : goal.invariant_of-self-2
 invariant_of-self-2 c =
-    let accepted : refusal_after (w c).opening (log c) (happens c) ≡ None = search rules in
+    let accepted : refusal_after (w c).opening (log c) (happens c) ≡ None = with_room (w c).opening c.is_full_for_grants-full.result (state_after (w c).opening (log c)) (happens c) (search rules) in
     keeps_more (w c) c.grant.new.self (log c) c.push.new.self.entries (entry c) c.self.invariant (following c) (added c) tt accepted (made c)

@@ -6,7 +6,7 @@ use Rattle.vp_answer.specs.declared.reply.Reply.TheVariants as reply
 use Rattle.vp_world.specs.History.{after, answer, entry_of, refusal_after, state_after, with_state}
 use Rattle.vp_world.specs.Worlds.{WorldState}
 use Rattle.vp_world.proofs.Jobs.{job_told}
-use Rattle.vp_world.proofs.Logs.{entry_is, keeps_more, seen_more}
+use Rattle.vp_world.proofs.Logs.{entry_is, keeps_more, seen_more, with_room}
 use Rattle.vp_world.proofs.world.World.apply_job.Goals as goal
 
 module _ (c : goal.After-push) where
@@ -33,15 +33,15 @@ module _ (c : goal.After-push) where
 
 pub invariant_of-self-2 : goal.invariant_of-self-2
 invariant_of-self-2 c =
-    let accepted : refusal_after (w c).opening (log c) event.TakeJob ≡ None = search rules in
+    let accepted : refusal_after (w c).opening (log c) event.TakeJob ≡ None = with_room (w c).opening c.is_full_for_simulation-full.result (state_after (w c).opening (log c)) event.TakeJob (search rules) in
     keeps_more (w c) c.take_job.new.self (log c) c.push.new.self.entries (entry c) c.self.invariant (following c) (added c) tt accepted (made c)
 
 pub returns-clause-applied : goal.returns-clause-applied
 returns-clause-applied c = record {
   accepted = search rules;
   logged =
-      seen_more (w c) c.take_job.new.self (log c) c.push.new.self.entries (entry c) c.args.self.now c.self.view_is
-      (following c ∙ ap (λ (s : WorldState). with_state (w c) s.state) (sym (following c))) (added c) (made c);
+      seen_more (w c) c.take_job.new.self (log c) c.push.new.self.entries c.self.inside.log.handed_out c.push.new.self.handed_out (entry c) c.args.self.now c.self.view_is
+      (following c ∙ ap (λ (s : WorldState). with_state (w c) s.state) (sym (following c))) (added c) (c.push.ensures.handed_out ∙ c.reserve.ensures.handed_out) (made c);
   refused = tt;
   unchanged = tt;
 }

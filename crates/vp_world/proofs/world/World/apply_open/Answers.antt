@@ -7,9 +7,9 @@ use Rattle.vp_world.specs.declared.event.Event.TheVariants as event
 use Rattle.vp_answer.specs.declared.request.SessionId.{SessionId}
 use Rattle.vp_answer.specs.declared.reply.Refusal.TheVariants as refusal
 use Rattle.vp_answer.specs.declared.reply.Reply.TheVariants as reply
-use Rattle.vp_world.specs.History.{after, answer, entry_of, next_session, opened_by, refusal_after, state_after, with_state}
+use Rattle.vp_world.specs.History.{after, answer, entry_of, next_session, opened_by, refusal_after, refused_by, state_after, with_state}
 use Rattle.vp_world.specs.Worlds.{WorldState}
-use Rattle.vp_world.proofs.Logs.{entry_is, keeps_more, refused_so, seen_more}
+use Rattle.vp_world.proofs.Logs.{entry_is, keeps_more, refused_so, seen_more, with_room}
 use Rattle.vp_world.proofs.world.World.apply_open.Goals as goal
 
 pub returns-in_err-number-clause-applied : goal.returns-in_err-number-clause-applied
@@ -18,7 +18,7 @@ returns-in_err-number-clause-applied c =
     let happens = event.Open c.args.user c.args.token in
     let e = c.in_err-number.field-0.0 in
     let is : c.from_residual.result ≡ Err e = search rules in
-    let why : refusal_after v.opening v.log happens ≡ Some e = search rules in
+    let why : refused_by v happens ≡ Some e = search rules in
     refused_so v happens c.from_residual.result e is why
 
 module _ (c : goal.After-push) where
@@ -55,15 +55,15 @@ module _ (c : goal.After-push) where
 
 pub invariant_of-self-2 : goal.invariant_of-self-2
 invariant_of-self-2 c =
-    let accepted : refusal_after (w c).opening (log c) (happens c) ≡ None = search rules in
+    let accepted : refusal_after (w c).opening (log c) (happens c) ≡ None = with_room (w c).opening c.is_full_for_users-full.result (state_after (w c).opening (log c)) (happens c) (search rules) in
     keeps_more (w c) c.open_for.new.self (log c) c.push.new.self.entries (entry c) c.self.invariant (following c) (added c) tt accepted (made c)
 
 pub returns-clause-applied : goal.returns-clause-applied
 returns-clause-applied c = record {
   accepted = search rules;
   logged =
-      seen_more (w c) c.open_for.new.self (log c) c.push.new.self.entries (entry c) c.args.self.now c.self.view_is
-      (following c ∙ ap (λ (s : WorldState). with_state (w c) s.state) (sym (following c))) (added c) (made c);
+      seen_more (w c) c.open_for.new.self (log c) c.push.new.self.entries c.self.inside.log.handed_out c.push.new.self.handed_out (entry c) c.args.self.now c.self.view_is
+      (following c ∙ ap (λ (s : WorldState). with_state (w c) s.state) (sym (following c))) (added c) (c.push.ensures.handed_out ∙ c.reserve.ensures.handed_out) (made c);
   refused = tt;
   unchanged = tt;
 }

@@ -1,6 +1,6 @@
 use Rattle.std.proofs.Common.{◌≡◌, map, take}
 use Rattle.vp_hub.specs.Calls.{entry_indexes, sessions_opened}
-use Rattle.vp_hub.proofs.close.Closed.receipts.Given as goal
+use Rattle.vp_hub.proofs.close.receipts.Given as goal
 
 -- those of the sessions so far
 abbrev pub invariant-loop-index : goal.invariant-loop-index

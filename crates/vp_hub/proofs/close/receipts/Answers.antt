@@ -5,12 +5,12 @@ use Rattle.vp_answer.specs.declared.request.SessionId.{SessionId}
 use Rattle.vp_world.specs.Entries.{Entry}
 use Rattle.vp_hub.specs.Calls.{entry_indexes, sessions_opened}
 use Rattle.vp_hub.proofs.Opened.{opened_to}
-use Rattle.vp_hub.proofs.close.Closed.receipts.Goals.{in-Some+in_ok-entry_indexes+in_ok-push, in_default}
-use Rattle.vp_hub.proofs.close.Closed.receipts.Goals as goal
+use Rattle.vp_hub.proofs.close.receipts.Goals.{in-Some+in_ok-entry_indexes+in_ok-push, in_default}
+use Rattle.vp_hub.proofs.close.receipts.Goals as goal
 
 pub loop-index-preserved : goal.loop-index-preserved
 loop-index-preserved c =
-    let log = c.log-log.result.now.entries in
+    let log = c.args.log.now.entries in
     let n = c.loop-index.index in
     let e : Entry = c.entry.result.now in
     let at : slice_get log n ≡ Some e = c.entry.ensures in

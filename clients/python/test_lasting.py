@@ -1,0 +1,118 @@
+"""Tests of a server that goes on: past what a log holds, and with a log that is kept, whose last entries are left to users, the operator and closes.
+python3 -m unittest, in this folder, over the program of test_loddrume.
+"""
+
+import json
+import re
+import socket
+import subprocess
+import tempfile
+import time
+import unittest
+from pathlib import Path
+from types import TracebackType
+from typing import IO, List, Optional, Type
+
+from test_loddrume import PROGRAM, free_port, needs_serve
+
+DESIGN = "module top; reg c; initial begin c = 0; forever #1 c = ~c; end endmodule\n"
+POLICY = {"users": [{"name": "ann", "token": "t1", "open": "list+read", "run": True}]}
+
+# A log that is kept holds so many entries. The last 65,536 the simulation leaves to others, users the last 4,096 to the operator and to closes.
+HELD = 4_194_304
+SIMULATION = HELD - 65_536
+USERS = HELD - 4_096
+
+
+class Served:
+    """A server of the design, and a client of it."""
+
+    def __init__(self, *words: str) -> None:
+        self.folder = tempfile.TemporaryDirectory()
+        folder = Path(self.folder.name)
+        (folder / "d.v").write_text(DESIGN)
+        (folder / "p.json").write_text(json.dumps(POLICY))
+        port = free_port()
+        asked = [PROGRAM, "serve", "d.v", "p.json", "--port", str(port), "--workers", "0", "--sessions", "1", *words]
+        self.process = subprocess.Popen(asked, cwd=folder, stdout=subprocess.PIPE, encoding="utf-8")
+        assert self.process.stdout
+        self.listening = self.process.stdout.readline()
+        self.connection = socket.create_connection(("127.0.0.1", port), 60)
+        self.stream: IO[str] = self.connection.makefile("rw", encoding="utf-8", newline="\n")
+
+    def __enter__(self) -> "Served":
+        return self
+
+    def __exit__(self, kind: Optional[Type[BaseException]], error: Optional[BaseException], trace: Optional[TracebackType]) -> None:
+        self.process.kill()
+        self.process.communicate()
+        self.hang_up()
+        self.folder.cleanup()
+
+    def ask(self, *lines: str) -> List[str]:
+        """What lines are answered."""
+        self.stream.write("".join(f"{line}\n" for line in lines))
+        self.stream.flush()
+        return [self.stream.readline().rstrip("\n") for _ in lines]
+
+    def time(self) -> int:
+        """The current time."""
+        found: int = json.loads(self.ask('{"op":"time"}')[0])["time"]
+        return found
+
+    def most_memory(self) -> int:
+        """The most memory that it had at any time, in KiB (proc(5))."""
+        status = Path(f"/proc/{self.process.pid}/status").read_text()
+        return int(re.findall(r"^VmHWM:\s+(\d+) kB$", status, re.MULTILINE)[0])
+
+    def hang_up(self) -> None:
+        """Ends the connection."""
+        self.stream.close()
+        self.connection.close()
+
+    def end(self) -> str:
+        """Ends the connection, and gives what the server prints at its end."""
+        self.hang_up()
+        return self.process.communicate(timeout=60)[0]
+
+
+OPEN = '{"op":"open","token":"t1","user":"ann"}'
+
+
+@needs_serve
+class Lasting(unittest.TestCase):
+    """A server that goes on."""
+
+    def test_past_a_full_log(self) -> None:
+        """More events than a log holds, in 64 MiB."""
+        until = 2_500_000
+        with Served() as served:
+            self.assertEqual(served.ask(OPEN, f'{{"op":"run","until":{until}}}', '{"name":"top.c","op":"handle"}')[:2], ['{"ok":true}'] * 2)
+            deadline = time.monotonic() + 120
+            while served.time() < until and time.monotonic() < deadline:
+                time.sleep(0.1)
+            self.assertEqual(served.ask('{"op":"time"}', '{"h":1,"op":"value"}'), [f'{{"finished":false,"time":{until}}}', '{"value":"0"}'])
+            memory = served.most_memory()
+            closed = served.end()
+        self.assertGreater(int(closed.split()[1]), HELD)
+        self.assertLess(memory, 64 << 10)
+
+    def test_a_log_that_is_kept(self) -> None:
+        """The simulation stands still, then requests are refused, and a close is not."""
+        with Served("--keep") as served:
+            served.ask(OPEN, '{"op":"run","until":1000000000}')
+            found = [served.time()]
+            while len(found) < 3 or len(set(found[-3:])) > 1:
+                time.sleep(0.5)
+                found.append(served.time())
+            answers: List[str] = []
+            while '{"error":"log full"}' not in answers:
+                answers = served.ask(*['{"op":"time"}'] * 1_000)
+            self.assertLessEqual(set(answers), {f'{{"finished":false,"time":{found[-1]}}}', '{"error":"log full"}'})
+            self.assertEqual(served.ask('{"op":"close"}'), ['{"ok":true}'])
+            closed = served.end()
+        self.assertEqual(closed, f"closed {USERS + 1}\n")
+
+
+if __name__ == "__main__":
+    unittest.main()
