@@ -1,5 +1,5 @@
 -- What every desk keeps, after an event, an opening, and a pass that was handed back.
-use Rattle.std.proofs.Common.{◌≡◌, ◌∙◌, ◌≤◌, ◌-◌, ◌⊎◌, inl, inr, ℕ, ◌+◌, Bool, true, false, cond, List, [], ◌∷◌, ◌++◌, Some, ap, arith, length, refl, remove, subst, sum_by, sym}
+use Rattle.std.proofs.Common.{◌≡◌, ◌∙◌, ◌≤◌, ◌-◌, ℕ, ◌+◌, Bool, true, false, cond, List, [], ◌∷◌, ◌++◌, Some, ap, arith, length, refl, remove, subst, sum_by, sym}
 use Rattle.std.specs.Prelude.{if◌then◌else◌, min, slice_get}
 use Rattle.std.proofs.lemmas.Bool.{le-leb}
 use Rattle.std.proofs.lemmas.List.{length_push}
@@ -106,7 +106,7 @@ counted_out d a b w n is count due world entries =
     ∙ sym (chosen (is_due d) (record d { world = record d.world { handed_out = length d.world.log }; archive = counted_more a m }) d (le-leb 65536 m (omega (arith, due, count))))
     ∙ ap (handed_out_to d) (sym is)
 
--- it is handed out or not
-pub hands_out : (b : Bool) (d next : Desked) → (b ≡ true → next ≡ handed_out d) → (b ≡ false → next ≡ d) → (next ≡ handed_out d) ⊎ (next ≡ d)
-hands_out true d next taken refused = inl (taken refl)
-hands_out false d next taken refused = inr (refused refl)
+-- it is handed out, by an archive that never refuses
+pub hands_out : (b : Bool) (d next : Desked) → (b ≡ true → next ≡ handed_out d) → (b ≡ false → ⊥) → next ≡ handed_out d
+hands_out true d next taken refused = taken refl
+hands_out false d next taken refused = absurd (refused refl)

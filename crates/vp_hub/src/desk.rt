@@ -1,4 +1,4 @@
-ghost use Rattle.std.specs.Prelude.{◌≡◌, ◌≢◌, ◌⊎◌, ◌<◌, ◌^◌, ◌+◌, ◌++◌, ◌∷◌, [], All, drop, IfErr, IfOk, OnErr, OnOk, None, Some, length, true};
+ghost use Rattle.std.specs.Prelude.{◌≡◌, ◌≢◌, ◌<◌, ◌^◌, ◌+◌, ◌++◌, ◌∷◌, [], All, drop, IfErr, IfOk, OnErr, OnOk, None, Some, length, true};
 ghost use Rattle.std.specs.Prelude.{IfNone, IfSome, slice_get};
 ghost use Rattle.std.specs.Arc.{arc_value};
 ghost use mathlib.Core.List.{IsPrefix};
@@ -274,9 +274,9 @@ impl<L: NamesOpening> Desk<L> {
 }
 
 impl<L: NamesOpening> Desk<L> {
-    /// Hands out the entries that the log holds, once they are 65,536, unless the archive refuses them.
+    /// Hands out the entries that the log holds, once they are 65,536, unless the archive is to leave them to the log.
     pub fn hand_out(&mut self)
-        ensures { (self.new ≡ handed_out self.old) ⊎ (self.new ≡ self.old) }
+        ensures { self.new ≡ handed_out self.old }
     {
         if self.world.log().len() < HANDED_OUT_AT {
             return;

@@ -175,6 +175,7 @@ impl Journal {
         ensures handed_out { result ≡ true → self.new.handed_out ≡ length self.old.entries }
         ensures refused { result ≡ false → archive.new ≡ archive.old }
         ensures unchanged { result ≡ false → self.new ≡ self.old }
+        ensures allowed { result ≡ false → A.may_refuse archive.old }
         ensures entries { self.new.entries ≡ self.old.entries }
     {
         if !archive.take(&self.held) {

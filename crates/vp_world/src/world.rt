@@ -125,6 +125,7 @@ impl World {
             → self.new ≡ record self.old { handed_out = length self.old.log } }
         ensures refused { result ≡ false → archive.new ≡ archive.old }
         ensures unchanged { result ≡ false → self.new ≡ self.old }
+        ensures allowed { result ≡ false → A.may_refuse archive.old }
     {
         self.log.hand_out(archive)
     }

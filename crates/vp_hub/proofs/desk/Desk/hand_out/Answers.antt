@@ -1,4 +1,4 @@
-use Rattle.std.proofs.Common.{◌≡◌, ◌∙◌, ◌⊎◌, ◌-◌, ◌≤◌, List, ap, arith, drop, length, length-drop, subst, sym}
+use Rattle.std.proofs.Common.{◌≡◌, ◌∙◌, ◌-◌, ◌≤◌, List, ap, arith, drop, length, length-drop, subst, sym}
 use Rattle.vp_world.specs.Entries.{Entry}
 use Rattle.vp_hub.specs.Desks.{Desked, handed_out}
 use Rattle.vp_hub.specs.declared.archive.LogArchive.TheVariants as kinds
@@ -15,7 +15,7 @@ returns-in-Counting g c =
     let count : length held ≡ length old.world.log - old.world.handed_out = length-drop old.world.handed_out old.world.log in
     let long = ap (λ (l : List Entry). length l) c.log.ensures.log in
     let due : 65536 ≤ length held = omega (arith, c.if-len-lt-HANDED_OUT_AT.false, c.len.ensures, long) in
-    subst (λ (x : Desked). (next ≡ handed_out x) ⊎ (next ≡ x)) c.self.view_is
+    subst (λ (x : Desked). next ≡ handed_out x) c.self.view_is
     (hands_out h.result d next
     (λ taken. counted_out d c.in-Counting.archive h.new.archive h.new.self (length held) c.in-Counting.is count due (h.ensures.world taken) (h.ensures.taken taken))
-    (λ refused. (λ i. record d { world = h.ensures.unchanged refused i; archive = (ap kinds.Counting (h.ensures.refused refused) ∙ sym c.in-Counting.is) i })))
+    (λ refused. h.ensures.allowed refused))
