@@ -97,6 +97,15 @@ class Lasting(unittest.TestCase):
         self.assertGreater(int(closed.split()[1]), HELD)
         self.assertLess(memory, 64 << 10)
 
+    def test_past_long_texts(self) -> None:
+        """More bytes of requests than the server may take, in 64 MiB."""
+        asked = json.dumps({"name": "x" * 60_000, "op": "handle"})
+        with Served() as served:
+            served.ask(OPEN)
+            for _ in range(2_000):
+                self.assertEqual(served.ask(asked), ['{"error":"no such name"}'])
+            self.assertLess(served.most_memory(), 64 << 10)
+
     def test_a_log_that_is_kept(self) -> None:
         """The simulation stands still, then requests are refused, and a close is not."""
         with Served("--keep") as served:

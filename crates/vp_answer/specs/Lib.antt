@@ -1,5 +1,6 @@
 pub mod Refusals
 pub mod Answers
+pub mod Sizes
 pub mod OpenSessions
 pub mod Given
 pub mod Renumbering

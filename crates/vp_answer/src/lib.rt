@@ -7,6 +7,7 @@ mod open_session;
 mod query;
 mod reply;
 mod request;
+mod sizes;
 
 pub use answering::{Answer, respond};
 pub use open_session::{

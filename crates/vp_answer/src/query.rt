@@ -1,5 +1,7 @@
 ghost use Rattle.std.specs.Prelude.{◌≡◌, IfOk};
+ghost use Rattle.vp_answer.specs.Sizes.{query_bytes, saturated, value_bytes};
 
+use crate::sizes::list_bytes;
 use std::alloc::{AllocError, Global};
 use vp_elab::Kind;
 use vp_text::Text;
@@ -82,7 +84,28 @@ pub enum Query {
     Time,
 }
 
+/// The bytes that the value of a put takes.
+fn value_bytes(value: &PutValue) -> u64
+    ensures { result ≡ saturated (value_bytes value.now) }
+{
+    match value {
+        PutValue::Digits(digits) => digits.as_str().len() as u64,
+        PutValue::Words(words) => list_bytes(words.as_slice()),
+    }
+}
+
 impl Query {
+    /// The bytes that it takes beside its place in a log: those of its texts, and 96 for each word of a value.
+    pub fn bytes(&self) -> u64
+        ensures { result ≡ saturated (query_bytes self.now) }
+    {
+        match self {
+            Query::Handle { name, .. } => name.as_str().len() as u64,
+            Query::Put { value, .. } => value_bytes(value),
+            _ => 0,
+        }
+    }
+
     /// The same query once more. Takes memory for its texts.
     pub fn try_clone(&self, alloc: Global) -> Result<Query, AllocError>
         ensures { IfOk result (λ query. query ≡ self.now) }

@@ -1,6 +1,8 @@
-ghost use Rattle.std.specs.Prelude.{◌≡◌, IfOk};
+ghost use Rattle.std.specs.Prelude.{◌≡◌, ◌+◌, IfOk, length};
+ghost use Rattle.vp_answer.specs.Sizes.{line_bytes, list_bytes, name_bytes, reply_bytes, saturated};
 
 use crate::request::SessionId;
+use crate::sizes::{ITEM_BYTES, list_bytes};
 use std::alloc::AllocError;
 use vp_bits::Bits;
 use vp_notify::Notices;
@@ -109,7 +111,44 @@ pub enum Reply {
     Error(Refusal),
 }
 
+/// The bytes that a listing takes.
+fn listing_bytes(listing: &Listing) -> u64
+    ensures { result
+        ≡ saturated (length listing.now.closed + list_bytes name_bytes listing.now.items) }
+{
+    let items = list_bytes(listing.items.as_slice());
+    items.saturating_add(listing.closed.len() as u64)
+}
+
+/// The bytes that a race with its steps takes.
+fn race_bytes(race: &RaceDetails) -> u64
+    ensures { result ≡ saturated (line_bytes race.now.line
+        + (list_bytes length race.now.first_steps + list_bytes length race.now.second_steps)) }
+{
+    let first_steps = list_bytes(race.first_steps.as_slice());
+    let second_steps = list_bytes(race.second_steps.as_slice());
+    let name = race.line.name.as_str().len() as u64;
+    first_steps
+        .saturating_add(second_steps)
+        .saturating_add(name)
+}
+
 impl Reply {
+    /// The bytes that it takes beside its place in a log: those of its texts, and 96 for each item of a list.
+    pub fn bytes(&self) -> u64
+        ensures { result ≡ saturated (reply_bytes self.now) }
+    {
+        match self {
+            Reply::Listing(listing) => listing_bytes(listing.value()),
+            Reply::Text(text) => text.as_str().len() as u64,
+            Reply::Notices(notices) => list_bytes(notices.value().notices.as_slice()),
+            Reply::Races(lines) => list_bytes(lines.value().as_slice()),
+            Reply::Race(race) => race_bytes(race.value()),
+            Reply::Denied(_) => ITEM_BYTES,
+            _ => 0,
+        }
+    }
+
     /// The same reply once more, whose texts are shared; or an error where their holders can't be counted.
     pub fn try_clone(&self) -> Result<Reply, AllocError>
         ensures { IfOk result (λ reply. reply ≡ self.now) }

@@ -120,7 +120,7 @@ abbrev opening : Opening
 opening = record {
   design = design;
   policy = record { tree = design.tree; members = ann ∷ bob ∷ []; operator = Some (codes "op") };
-  limits = record { log = 100; for_users = 0; for_operator = 0; for_closes = 0; book = record { races = 65536; steps = 16777216 }; sessions = 10 };
+  limits = record { log = 100; for_users = 0; for_operator = 0; for_closes = 0; bytes = None; book = record { races = 65536; steps = 16777216 }; sessions = 10 };
 }
 
 -- ---- a log: bob puts both, and then ann is granted the envelope

@@ -35,6 +35,10 @@ fn with_limit(limits: Limits, name: &str, number: usize) -> Limits {
             log: number,
             ..limits
         },
+        "bytes" => Limits {
+            bytes: Some(number as u64),
+            ..limits
+        },
         "races" => Limits {
             book: BookLimits {
                 races: number,

@@ -97,13 +97,13 @@ chosen true x y h = refl
 chosen false x y h = absurd (cc)
 
 -- a desk whose log was handed out to an archive that counts
-pub counted_out : (d : Desked) (a b : CountingArchive) (w : WorldLog) (n : ℕ) → d.archive ≡ kinds.Counting a → n ≡ length d.world.log - d.world.handed_out → 65536 ≤ n
+pub counted_out : (d : Desked) (a b : CountingArchive) (w : WorldLog) (n : ℕ) → d.archive ≡ kinds.Counting a → n ≡ length d.world.log - d.world.handed_out → is_due d ≡ true
     → w ≡ record d.world { handed_out = length d.world.log } → b.entries ≡ min (a.entries + n) 18446744073709551615
     → record d { world = w; archive = kinds.Counting b } ≡ handed_out d
 counted_out d a b w n is count due world entries =
     let m = length d.world.log - d.world.handed_out in
     (λ i. record d { world = world i; archive = kinds.Counting (record { entries = (entries ∙ ap (λ k. min (a.entries + k) 18446744073709551615) count) i }) })
-    ∙ sym (chosen (is_due d) (record d { world = record d.world { handed_out = length d.world.log }; archive = counted_more a m }) d (le-leb 65536 m (omega (arith, due, count))))
+    ∙ sym (chosen (is_due d) (record d { world = record d.world { handed_out = length d.world.log }; archive = counted_more a m }) d due)
     ∙ ap (handed_out_to d) (sym is)
 
 -- it is handed out, by an archive that never refuses

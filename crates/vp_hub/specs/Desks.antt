@@ -1,5 +1,5 @@
 -- What stands behind the lock of a hub.
-use Rattle.std.specs.Prelude.{◌≡◌, ◌≢◌, ◌<◌, ℕ, ◌+◌, ◌-◌, ◌++◌, ◌∷◌, [], All, AllPairs, Bool, IfErr, IfOk, OnErr, OnOk, if◌then◌else◌, length, min, nat_le, List, Option, None, Some, option_map, Result, slice_get, sum_by}
+use Rattle.std.specs.Prelude.{◌≡◌, ◌≢◌, ◌<◌, ℕ, ◌+◌, ◌-◌, ◌++◌, ◌∷◌, ◌||◌, [], All, AllPairs, Bool, IfErr, IfOk, OnErr, OnOk, if◌then◌else◌, length, min, nat_le, List, Option, None, Some, option_map, Result, slice_get, sum_by}
 use Rattle.std.specs.List.{remove}
 use mathlib.Core.List.{IsPrefix}
 use Rattle.vp_answer.specs.declared.reply.Reply.{Reply}
@@ -10,7 +10,7 @@ use Rattle.vp_world.specs.declared.event.Event.{Event}
 use Rattle.vp_world.specs.declared.event.Event.TheVariants as event
 use Rattle.vp_world.specs.Entries.{Entry}
 use Rattle.vp_world.specs.declared.error.WorldError.TheVariants as world_error
-use Rattle.vp_world.specs.History.{answered_by, most_entries, refused_by, with_entry}
+use Rattle.vp_world.specs.History.{answered_by, held_bytes, most_entries, refused_by, with_entry}
 use Rattle.vp_world.specs.Worlds.{WorldLog, Opening}
 use Rattle.vp_world.specs.declared.archive.CountingArchive.{CountingArchive}
 use Rattle.vp_hub.specs.declared.archive.LogArchive.{LogArchive}
@@ -93,9 +93,11 @@ pub record WithPassBack (d : Desked) (p : Passed) (next : Desked) : Type 0 where
 abbrev pub archive_of : (keep : Bool) → LogArchive
 archive_of keep = if keep then kinds.Keeping else kinds.Counting (record { entries = 0 })
 
--- a desk holds as many entries of its log as are handed out at once (profile)
+-- a desk holds as many entries of its log, or as many bytes of texts in them, as are handed out at once (profile)
 abbrev pub is_due : Desked → Bool
-is_due d = nat_le 65536 (length d.world.log - d.world.handed_out)
+is_due d =
+    nat_le 65536 (length d.world.log - d.world.handed_out)
+    || nat_le 16777216 (held_bytes d.world.handed_out d.world.log)
 
 -- an archive that counts, with so many entries more, as far as 64 bits go
 abbrev pub counted_more : CountingArchive → ℕ → LogArchive

@@ -24,5 +24,5 @@ bare = record {
     members = [];
     operator = None;
   };
-  limits = record { log = 0; for_users = 0; for_operator = 0; for_closes = 0; book = record { races = 0; steps = 0 }; sessions = 0 };
+  limits = record { log = 0; for_users = 0; for_operator = 0; for_closes = 0; bytes = None; book = record { races = 0; steps = 0 }; sessions = 0 };
 }

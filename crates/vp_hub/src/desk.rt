@@ -11,7 +11,7 @@ ghost use Rattle.vp_world.specs.History.{IsLegal, answered_by, most_entries, ref
 ghost use Rattle.vp_hub.specs.declared.error.HubError.TheVariants.{Mismatch, Receipt};
 ghost use Rattle.vp_hub.specs.Calls.{is_of_session, session_entries};
 ghost use Rattle.vp_hub.specs.Closing.{HaveAll, IsClosed};
-ghost use Rattle.vp_hub.specs.Desks.{Calls, IsOther, WithPass, WithPassBack, refusal_of, out_of_memory, handed_out, with_call, with_event};
+ghost use Rattle.vp_hub.specs.Desks.{Calls, IsOther, WithPass, WithPassBack, refusal_of, out_of_memory, handed_out, is_due, with_call, with_event};
 
 use crate::archive::LogArchive;
 use crate::close::Closed;
@@ -78,6 +78,9 @@ impl<L: NamesOpening> Model for Desk<L> {
 
 /// So many entries are handed out at once.
 const HANDED_OUT_AT: usize = 65_536;
+
+/// And so many bytes of texts in them.
+const BYTES_HANDED_OUT_AT: u64 = 16_777_216;
 
 /// A world shows its log.
 struct ShownLog;
@@ -274,11 +277,18 @@ impl<L: NamesOpening> Desk<L> {
 }
 
 impl<L: NamesOpening> Desk<L> {
-    /// Hands out the entries that the log holds, once they are 65,536, unless the archive is to leave them to the log.
+    /// The log holds as many entries, or as many bytes of texts in them, as are handed out at once.
+    fn is_due(&self) -> bool
+        ensures { result ≡ is_due self.now }
+    {
+        self.world.log().len() >= HANDED_OUT_AT || self.world.held_bytes() >= BYTES_HANDED_OUT_AT
+    }
+
+    /// Hands out the entries that the log holds, once they are 65,536 or have 16 MiB of texts, unless the archive is to leave them to the log.
     pub fn hand_out(&mut self)
         ensures { self.new ≡ handed_out self.old }
     {
-        if self.world.log().len() < HANDED_OUT_AT {
+        if !self.is_due() {
             return;
         }
         match &mut self.archive {

@@ -14,7 +14,7 @@ use Rattle.vp_world.specs.declared.event.Event.{Event}
 use Rattle.vp_world.specs.declared.event.Event.TheVariants as event
 use Rattle.vp_world.specs.declared.error.WorldError.{WorldError}
 use Rattle.vp_world.specs.declared.error.WorldError.TheVariants as error
-use Rattle.vp_world.specs.History.{is_log_full, limit_for, most_entries, refusal_of, refusal_of_job, refused_by, state_after, with_entry}
+use Rattle.vp_world.specs.History.{byte_limit_for, is_full_of, is_full_of_bytes, is_log_full, limit_for, most_entries, refusal_of, refusal_of_job, refused_by, state_after, with_entry}
 use Rattle.vp_world.specs.Worlds.{WorldLog, Opening, State}
 use Rattle.vp_world.proofs.Logs.{second_not}
 use Rattle.vp_script.specs.Pending.{ArePending, HappensTo, pending, running_of}
@@ -54,7 +54,9 @@ room w = most_entries - length w.log
 -- an event takes of the room, where the log is not full for it
 takes : (w : WorldLog) (e : Event) → is_log_full w e ≡ false → room (with_entry w e) < room w
 takes w e open_log =
-    let few = leb-false most_entries (length w.log) (second_not (nat_le (limit_for w.opening.limits e) (length w.log - w.handed_out)) (nat_le most_entries (length w.log)) open_log) in
+    let by_bytes = is_full_of_bytes (byte_limit_for w.opening.limits e) w.handed_out w.log in
+    let by_entries = second_not by_bytes (is_full_of (limit_for w.opening.limits e) w.handed_out w.log) open_log in
+    let few = leb-false most_entries (length w.log) (second_not (nat_le (limit_for w.opening.limits e) (length w.log - w.handed_out)) (nat_le most_entries (length w.log)) by_entries) in
     omega (arith, few, length-append w.log)
 
 -- each event of the simulation takes of the room

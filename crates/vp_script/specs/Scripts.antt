@@ -170,7 +170,7 @@ opened seeds opening = begun seeds (new_world opening)
 
 -- the greatest limits of a world (profile)
 abbrev pub greatest : Limits
-greatest = record { log = 4194304; for_users = 0; for_operator = 0; for_closes = 0; book = record { races = 65536; steps = 16777216 }; sessions = 64 }
+greatest = record { log = 4194304; for_users = 0; for_operator = 0; for_closes = 0; bytes = None; book = record { races = 65536; steps = 16777216 }; sessions = 64 }
 
 -- a world opens with a design and a policy, and with the greatest limits
 abbrev pub opening_of : Elaborated → PolicyState → Opening

@@ -25,6 +25,9 @@ const FOR_OPERATOR: usize = 4_032;
 /// So many, the last, to closes.
 const FOR_CLOSES: usize = 64;
 
+/// So many bytes of texts the entries of a log hold at most: 1 GiB.
+const LOG_BYTES: u64 = 1 << 30;
+
 /// A world of the files of a design and a policy, with the greatest limits, in which nothing has happened; or the first fault.
 #[tactic(auto, using(crate::proofs::Fresh::log_of))]
 fn world_of_files<R: AllocGlobal + Files>(
@@ -123,6 +126,7 @@ where
 {
     let world = world_of_files(rt, design, policy)?;
     let mut world = world;
+    world.limit_bytes(LOG_BYTES);
     if settings.keep {
         world.leave_last(FOR_USERS, FOR_OPERATOR, FOR_CLOSES);
     }

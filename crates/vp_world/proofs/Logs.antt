@@ -1,7 +1,6 @@
 -- A log with one entry more.
-use Rattle.std.proofs.Common.{◌≡◌, ◌∙◌, ◌<◌, ◌-◌, Bool, true, false, List, [], ◌∷◌, ◌++◌, Option, Some, None, Result, Err, ℕ, refl, sym, ap, subst, append_assoc, append-nil}
-use Rattle.std.specs.Prelude.{◌||◌, fold, if◌then◌else◌, length, nat_le, nat_lt}
-use Rattle.std.proofs.lemmas.Bool.{leb-false}
+use Rattle.std.proofs.Common.{◌≡◌, ◌∙◌, Bool, true, false, List, [], ◌∷◌, ◌++◌, Option, Some, None, Result, Err, ℕ, refl, sym, ap, subst, append_assoc, append-nil}
+use Rattle.std.specs.Prelude.{◌||◌, fold, if◌then◌else◌, length, nat_lt}
 use Rattle.vp_world.specs.declared.error.WorldError.TheVariants as world_error
 use Rattle.vp_text.specs.Refusals.{Explains}
 use Rattle.vp_expr.specs.declared.change.Change.{Change}
@@ -14,7 +13,7 @@ use Rattle.vp_world.specs.declared.error.WorldError.{WorldError}
 use Rattle.vp_answer.specs.declared.reply.Reply.{Reply}
 use Rattle.vp_world.specs.Entries.{Entry}
 use Rattle.vp_world.specs.Events.{IsWellFormed}
-use Rattle.vp_world.specs.History.{Applies, IsLegal, Keeps, after, answer, changed, entry_of, is_full, is_full_of, most_entries, refusal_after, refusal_of, refusal_of_grantee, refusal_of_open, refusal_of_session, refused_by, state_after, with_entry}
+use Rattle.vp_world.specs.History.{Applies, IsLegal, Keeps, after, answer, changed, entry_of, is_full, refusal_after, refusal_of, refusal_of_grantee, refusal_of_open, refusal_of_session, refused_by, state_after, with_entry}
 use Rattle.vp_world.specs.Worlds.{WorldLog, Opening, WorldState, State, start}
 
 -- a left fold of one item more
@@ -98,21 +97,18 @@ full_refuses opening s event.Advance h = absurd (cc)
 full_refuses opening s event.TakeJob h = absurd (cc)
 full_refuses opening s (event.Book finding) h = absurd (cc)
 
--- so a log is not full whose world accepts an event
-not_full : (opening : Opening) (full : Bool) (s : State) (e : Event) → refusal_of opening full s e ≡ None → full ≡ false
-not_full opening true s e h = absurd (full_refuses opening s e h)
-not_full opening false s e h = refl
+-- a world in which nothing has happened keeps a log without entries, whatever its opening is
+pub opened_anew : (w : WorldState) (opening : Opening) (log : List Entry) → Keeps w log → log ≡ [] → start opening ≡ start w.opening → Keeps (record w { opening = opening }) log
+opened_anew w opening log keeps none same =
+    let begins : w.state ≡ start opening = keeps.state ∙ ap (λ (l : List Entry). state_after w.opening l) none ∙ sym same in
+    let next : WorldState = record w { opening = opening } in
+    let kept : Keeps next [] = record { state = begins; legal = tt } in
+    subst (λ (l : List Entry). Keeps next l) (sym none) kept
 
 -- what is neither this nor that is not that
 pub second_not : (a b : Bool) → (a || b) ≡ false → b ≡ false
 second_not true b h = absurd (cc)
 second_not false b h = h
-
--- and it has fewer entries than one gets
-pub has_few : (opening : Opening) (limit handed_out : ℕ) (log : List Entry) (s : State) (e : Event) → refusal_of opening (is_full_of limit handed_out log) s e ≡ None → length log < most_entries
-has_few opening limit handed_out log s e h =
-    leb-false most_entries (length log)
-    (second_not (nat_le limit (length log - handed_out)) (nat_le most_entries (length log)) (not_full opening (is_full_of limit handed_out log) s e h))
 
 -- an event that a world accepts is accepted by a log with room
 pub with_room : (opening : Opening) (full : Bool) (s : State) (e : Event) → refusal_of opening full s e ≡ None → refusal_of opening false s e ≡ None

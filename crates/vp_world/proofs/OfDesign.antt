@@ -1,11 +1,10 @@
 -- All states after a log are of the design with which the world opened, and so are the segments of its run.
-use Rattle.std.proofs.Common.{◌≡◌, ◌∙◌, ◌-◌, ◌==◌, ℕ, Bool, true, false, if◌then◌else◌, List, [], ◌∷◌, ◌++◌, length, All, Option, Some, None, IfSome, fold, refl, subst}
+use Rattle.std.proofs.Common.{◌≡◌, ◌∙◌, ◌==◌, ℕ, Bool, true, false, if◌then◌else◌, List, [], ◌∷◌, ◌++◌, All, Option, Some, None, IfSome, fold, refl, subst}
 use Rattle.std.specs.Prelude.{slice_get}
 use Rattle.std.specs.Option.{option_map_or}
 use Rattle.std.proofs.lemmas.List.Elements.{All-nil, All-push}
 use Rattle.vp_bits.specs.declared.bit.Bit.{Bit}
 use Rattle.vp_elab.specs.Built.{Elaborated}
-use Rattle.vp_expr.specs.declared.change.Change.{Change}
 use Rattle.vp_policy.specs.Users.{login_of, user_of}
 use Rattle.vp_race.specs.Orders.{is_over}
 use Rattle.vp_race.proofs.Within.{all_kept}

@@ -35,7 +35,7 @@ use Rattle.vp_answer.specs.declared.reply.Reply.{Reply}
 use Rattle.vp_answer.specs.declared.reply.Reply.TheVariants as reply
 use Rattle.vp_expr.specs.declared.change.Change.{Change}
 use Rattle.vp_sim.specs.declared.error.SimError.TheVariants as sim
-use Rattle.vp_world.specs.Entries.{Entry}
+use Rattle.vp_world.specs.Entries.{Entry, entry_bytes}
 use Rattle.vp_world.specs.Worlds.{Opening, State, start}
 use Rattle.vp_world.specs.History.{IsLegal, after, answer, is_log_full, refusal_of}
 use Rattle.vp_world.specs.declared.limits.Limits.{Limits}
@@ -117,7 +117,7 @@ abbrev opening : Opening
 opening = record {
   design = record { source = source; tree = tree };
   policy = record { tree = tree; members = ann ∷ []; operator = Some (codes "op") };
-  limits = record { log = 7; for_users = 0; for_operator = 0; for_closes = 0; book = record { races = 65536; steps = 16777216 }; sessions = 1 };
+  limits = record { log = 7; for_users = 0; for_operator = 0; for_closes = 0; bytes = None; book = record { races = 65536; steps = 16777216 }; sessions = 1 };
 }
 
 abbrev first : SessionId
@@ -384,3 +384,49 @@ grants_take_nine = (refl, refl)
 
 closes_take_ten : (is_full_with shares 9 0 (event.Close first) ≡ false) × (is_full_with shares 10 0 (event.Close first) ≡ true)
 closes_take_ten = (refl, refl)
+
+-- ---- bytes of texts
+
+-- those of a login, of a name with a denial, which is one item, and of a change of a grant; a step has none
+login_bytes : entry_bytes (entry opens (reply.Opened first) None) ≡ 5
+login_bytes = refl
+
+denied_bytes : entry_bytes (entry (asks (codes "top.k")) hidden None) ≡ 101
+denied_bytes = refl
+
+grant_bytes : entry_bytes (entry (grants (codes "op") (codes "ann") 1 nothing) reply.Done None) ≡ 5
+grant_bytes = refl
+
+step_bytes : entry_bytes (entry (steps 0) reply.Done None) ≡ 0
+step_bytes = refl
+
+-- each item of a list has 96 beside its name
+listing_bytes :
+    entry_bytes (entry (event.Ask first query.Time) (reply.Listing (record {
+      closed = 1 ∷ [];
+      items = record { handle = 1; name = codes "a" } ∷ record { handle = 2; name = codes "bb" } ∷ [];
+    })) None) ≡ 196
+listing_bytes = refl
+
+-- the log of a world that holds ten bytes of texts at most is full for an event: of so many logins, of which the first were handed out
+abbrev is_full_of_logins : (logins handed_out : ℕ) → Event → Bool
+is_full_of_logins logins handed_out e = is_log_full (record {
+  opening = record opening { limits = record opening.limits { bytes = Some 10 } };
+  log = replicate logins (entry opens (reply.Opened first) None);
+  handed_out = handed_out;
+}) e
+
+five_bytes_held : is_full_of_logins 1 0 opens ≡ false
+five_bytes_held = refl
+
+ten_bytes_held :
+    (is_full_of_logins 2 0 opens ≡ true) × (is_full_of_logins 2 0 (reads 1) ≡ true)
+    × (is_full_of_logins 2 0 (grants (codes "op") (codes "ann") 1 nothing) ≡ true)
+ten_bytes_held = (refl, refl, refl)
+
+five_of_ten_handed_out : is_full_of_logins 2 1 opens ≡ false
+five_of_ten_handed_out = refl
+
+-- bytes refuse no close, and no event of the simulation
+not_by_bytes : (is_full_of_logins 2 0 (event.Close first) ≡ false) × (is_full_of_logins 2 0 (steps 0) ≡ false)
+not_by_bytes = (refl, refl)

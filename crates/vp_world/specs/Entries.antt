@@ -1,5 +1,5 @@
 -- An entry of the log.
-use Rattle.std.specs.Prelude.{ℕ, Bool, Option, Some, None}
+use Rattle.std.specs.Prelude.{ℕ, ◌+◌, Bool, List, length, sum_by, Option, Some, None}
 use Rattle.std.specs.Arc.{arc_value}
 use Rattle.vp_expr.specs.declared.change.Change.{Change}
 use Rattle.vp_world.specs.declared.entry.LoggedEvent.{LoggedEvent}
@@ -9,6 +9,7 @@ use Rattle.vp_world.specs.declared.event.Event.TheVariants as event
 use Rattle.vp_answer.specs.declared.request.SessionId.{SessionId}
 use Rattle.vp_answer.specs.declared.reply.Reply.{Reply}
 use Rattle.vp_answer.specs.declared.reply.Reply.TheVariants as reply
+use Rattle.vp_answer.specs.Sizes.{query_bytes, reply_bytes}
 
 -- an entry of the log: an event, its reply, what it changed, and the time and whether $finish was executed after it
 pub record Entry : Type 0 where
@@ -24,6 +25,21 @@ session_in (event.Open user token) (reply.Opened id) = Some id
 session_in (event.Ask id r) answer = Some id
 session_in (event.Close id) answer = Some id
 session_in e answer = None
+
+-- the bytes of the texts of an event: of a login, of what is asked, and of a change of a grant (profile)
+abbrev pub event_bytes : Event → ℕ
+event_bytes (event.Open user token) = length user + length token
+event_bytes (event.Ask id query) = query_bytes query
+event_bytes (event.Grant change) = length change.token + length change.user
+event_bytes e = 0
+
+-- of an entry, with its reply
+abbrev pub entry_bytes : Entry → ℕ
+entry_bytes e = event_bytes e.event + reply_bytes e.reply
+
+-- of all entries of a list
+abbrev pub bytes_of : List Entry → ℕ
+bytes_of entries = sum_by entry_bytes entries
 
 -- ---- what is seen of the fields of an entry
 

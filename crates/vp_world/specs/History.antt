@@ -1,5 +1,5 @@
 -- The world as a function of its events.
-use Rattle.std.specs.Prelude.{◌≡◌, ℕ, ◌+◌, ◌-◌, ◌^◌, ◌||◌, nat_le, nat_lt, max, Bool, true, false, if◌then◌else◌, List, [], ◌∷◌, ◌++◌, length, fold, map, slice_get, slice_index, slice_set, Option, Some, None, is_none, option_and_then, option_map, Result, IfErr, OnErr, OnOk}
+use Rattle.std.specs.Prelude.{◌≡◌, ℕ, ◌+◌, ◌-◌, ◌^◌, ◌||◌, drop, nat_le, nat_lt, max, Bool, true, false, if◌then◌else◌, List, [], ◌∷◌, ◌++◌, length, fold, map, slice_get, slice_index, slice_set, Option, Some, None, is_none, option_and_then, option_map, Result, IfErr, OnErr, OnOk}
 use Rattle.std.specs.List.{remove}
 use Rattle.std.specs.Option.{option_map_or}
 use Rattle.vp_text.specs.Refusals.{Explains}
@@ -17,7 +17,7 @@ use Rattle.vp_sim.specs.States as sim
 use Rattle.vp_vpi.specs.Observers.{Observer}
 use Rattle.vp_world.specs.Races.{observer_with}
 use Rattle.vp_vpi.specs.SessionStates.{SessionState, new_session_state}
-use Rattle.vp_world.specs.Entries.{Entry}
+use Rattle.vp_world.specs.Entries.{Entry, bytes_of}
 use Rattle.vp_answer.specs.declared.request.GrantChange.{GrantChange}
 use Rattle.vp_answer.specs.declared.request.SessionId.{SessionId}
 use Rattle.vp_answer.specs.declared.query.Query.{Query}
@@ -327,6 +327,10 @@ limit_of_users limits = limit_of_grants limits - limits.for_operator
 abbrev pub limit_of_simulation : Limits → ℕ
 limit_of_simulation limits = limit_of_users limits - limits.for_users
 
+-- an opening by whose limits a log holds so many bytes of texts at most
+abbrev pub with_bytes : Opening → (bytes : ℕ) → Opening
+with_bytes opening bytes = record opening { limits = record opening.limits { bytes = Some bytes } }
+
 -- an opening by whose limits so many of the log's last entries are left to users, to the operator and to closes
 abbrev pub with_last_for : Opening → (for_users for_operator for_closes : ℕ) → Opening
 with_last_for opening for_users for_operator for_closes =
@@ -351,9 +355,26 @@ most_entries = 2 ^ 62
 abbrev pub is_full_of : (limit handed_out : ℕ) → List Entry → Bool
 is_full_of limit handed_out log = nat_le limit (length log - handed_out) || nat_le most_entries (length log)
 
+-- so many bytes of texts a log holds at most where such an event is accepted: the simulation's have few, and a close is never refused by bytes
+abbrev pub byte_limit_for : Limits → Event → Option ℕ
+byte_limit_for limits (event.Open name token) = limits.bytes
+byte_limit_for limits (event.Ask id query) = limits.bytes
+byte_limit_for limits (event.Grant change) = limits.bytes
+byte_limit_for limits e = None
+
+-- the bytes of the entries that are held
+abbrev pub held_bytes : (handed_out : ℕ) → List Entry → ℕ
+held_bytes handed_out log = bytes_of (drop handed_out log)
+
+-- a log is full by bytes: as many are held as the limit allows, if there is one (profile)
+abbrev pub is_full_of_bytes : Option ℕ → (handed_out : ℕ) → List Entry → Bool
+is_full_of_bytes limit handed_out log = option_map_or (λ most. nat_le most (held_bytes handed_out log)) limit false
+
 -- the log of a world is full for an event
 abbrev pub is_log_full : WorldLog → Event → Bool
-is_log_full w e = is_full_of (limit_for w.opening.limits e) w.handed_out w.log
+is_log_full w e =
+    is_full_of_bytes (byte_limit_for w.opening.limits e) w.handed_out w.log
+    || is_full_of (limit_for w.opening.limits e) w.handed_out w.log
 
 -- the refusal of an event by a world; none where it is accepted
 abbrev pub refused_by : WorldLog → Event → Option WorldError

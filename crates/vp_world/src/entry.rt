@@ -1,3 +1,5 @@
+ghost use Rattle.std.specs.Prelude.{◌≡◌, ◌+◌, length};
+ghost use Rattle.vp_answer.specs.Sizes.{saturated};
 ghost use Rattle.vp_world.specs.declared.event.Event.TheVariants as event;
 ghost use Rattle.vp_answer.specs.declared.reply.Reply.TheVariants as reply;
 
@@ -69,12 +71,20 @@ pub enum LoggedEvent {
     },
 }
 
+/// The bytes of two texts.
+fn both_bytes(first: &Text, second: &Text) -> u64
+    ensures { result ≡ saturated (length first.now + length second.now) }
+{
+    (first.as_str().len() as u64).saturating_add(second.as_str().len() as u64)
+}
+
 impl LoggedEvent {
-    ghost use Rattle.std.specs.Prelude.{◌≡◌, true, IfSome};
+    ghost use Rattle.std.specs.Prelude.{◌≡◌, ◌+◌, true, IfSome, length};
     ghost use Rattle.std.specs.Arc.{arc_value};
     ghost use Rattle.vp_world.specs.declared.event.Event.TheVariants as event;
     ghost use Rattle.vp_answer.specs.declared.reply.Reply.TheVariants as reply;
-    ghost use Rattle.vp_world.specs.Entries.{change_in, event_in, reply_in, session_in};
+    ghost use Rattle.vp_answer.specs.Sizes.{reply_bytes, saturated};
+    ghost use Rattle.vp_world.specs.Entries.{change_in, event_bytes, event_in, reply_in, session_in};
 
     /// A session asked, was answered so, and changed this; only what is done changes something.
     pub fn of_asked(asked: Arc<Asked>, answer: Reply, change: Option<Change>) -> LoggedEvent
@@ -101,6 +111,22 @@ impl LoggedEvent {
             LoggedEvent::Open { session, .. } | LoggedEvent::Close { session } => Some(*session),
             LoggedEvent::Ask { asked, .. } | LoggedEvent::Put { asked, .. } => Some(asked.session),
             _ => None,
+        }
+    }
+
+    /// The bytes that its event and its reply take, beside its place in a log.
+    pub fn bytes(&self) -> u64
+        ensures { result
+            ≡ saturated (event_bytes (event_in self.now) + reply_bytes (reply_in self.now)) }
+    {
+        match self {
+            LoggedEvent::Open { login, .. } => both_bytes(&login.user, &login.token),
+            LoggedEvent::Ask { asked, reply } => {
+                asked.query.bytes().saturating_add(reply.bytes())
+            }
+            LoggedEvent::Put { asked, .. } => asked.query.bytes(),
+            LoggedEvent::Grant { change } => both_bytes(&change.token, &change.user),
+            _ => 0,
         }
     }
 
@@ -151,7 +177,16 @@ impl Model for Entry {
 
 impl Entry {
     ghost use Rattle.std.specs.Prelude.{◌≡◌};
+    ghost use Rattle.vp_answer.specs.Sizes.{saturated};
+    ghost use Rattle.vp_world.specs.Entries.{entry_bytes};
     ghost use Rattle.vp_world.specs.LogRecords.{no_entry};
+
+    /// The bytes that it takes, beside its place in a log.
+    pub fn bytes(&self) -> u64
+        ensures { result ≡ saturated (entry_bytes self.now) }
+    {
+        self.happening.bytes()
+    }
 
     /// A place for an entry that a log makes when it is read.
     pub fn blank() -> Entry

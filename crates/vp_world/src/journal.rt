@@ -1,7 +1,8 @@
 ghost use Rattle.std.specs.Prelude.{◌≡◌, ◌<◌, ◌≤◌, ◌++◌, ◌∷◌, [], false, true, drop, length, OnOk};
 ghost use Rattle.vp_answer.specs.declared.reply.Reply.TheVariants as reply;
 ghost use Rattle.vp_world.specs.declared.event.Event.TheVariants as event;
-ghost use Rattle.vp_world.specs.History.{is_full_of, most_entries};
+ghost use Rattle.vp_answer.specs.Sizes.{saturated};
+ghost use Rattle.vp_world.specs.History.{held_bytes, is_full_of, is_full_of_bytes, most_entries};
 
 use crate::archive::Archive;
 use crate::entry::Entry;
@@ -52,10 +53,14 @@ pub(crate) struct Journal {
     history: History<Entry>,
     /// So many of them were handed out.
     handed_out: u64,
+    /// The bytes of those that are held.
+    bytes: u64,
 }
 
 impl Model for Journal {
     ghost use Rattle.std.specs.Prelude.{◌≡◌, ◌≤◌, drop, length};
+    ghost use Rattle.vp_answer.specs.Sizes.{saturated};
+    ghost use Rattle.vp_world.specs.Entries.{bytes_of};
     ghost use Rattle.vp_world.specs.History.{most_entries};
     ghost use Rattle.vp_world.specs.LogRecords.{JournalState};
 
@@ -71,6 +76,7 @@ impl Model for Journal {
       held : j.held.entries ≡ drop j.handed_out j.history.entries;
       within : j.handed_out ≤ length j.history.entries;
       few : length j.history.entries ≤ most_entries;
+      bytes : j.bytes ≡ saturated (bytes_of j.held.entries);
     } };
 }
 
@@ -84,6 +90,7 @@ impl Journal {
             held: Log::new(alloc),
             history: History::new(),
             handed_out: 0,
+            bytes: 0,
         }
     }
 
@@ -117,6 +124,23 @@ impl Journal {
         self.held.len() >= limit || self.len() >= MOST_ENTRIES
     }
 
+    /// The bytes of the entries that are held.
+    pub fn bytes(&self) -> u64
+        ensures { result ≡ saturated (held_bytes self.now.handed_out self.now.entries) }
+    {
+        self.bytes
+    }
+
+    /// The entries that are held have as many bytes as the limit allows, if there is one.
+    pub fn is_full_of_bytes(&self, most: Option<u64>) -> bool
+        ensures { result ≡ is_full_of_bytes most self.now.handed_out self.now.entries }
+    {
+        match most {
+            Some(most) => self.bytes >= most,
+            None => false,
+        }
+    }
+
     /// Makes room for one more entry.
     pub fn reserve(&mut self) -> Result<(), AllocError>
         ensures room { OnOk result (self.new.has_room ≡ true) }
@@ -135,6 +159,7 @@ impl Journal {
         ensures handed_out { self.new.handed_out ≡ self.old.handed_out }
     {
         self.history.push::<Entry, AsItIs>(&entry);
+        self.bytes = self.bytes.saturating_add(entry.bytes());
         self.held.push(entry);
     }
 
@@ -182,6 +207,7 @@ impl Journal {
             return false;
         }
         self.handed_out += self.held.len() as u64;
+        self.bytes = 0;
         self.held.clear();
         true
     }

@@ -11,6 +11,8 @@ pub struct Limits {
     pub for_operator: usize,
     /// So many of them, the last, are left to closes.
     pub for_closes: usize,
+    /// Bytes of texts in the entries that the log holds; as many as come, where there is none.
+    pub bytes: Option<u64>,
     /// The book of races.
     pub book: BookLimits,
     /// Sessions that are open at once.
@@ -21,12 +23,13 @@ impl Limits {
     ghost use Rattle.std.specs.Prelude.{◌≡◌};
     ghost use Rattle.vp_world.specs.History.{limit_of_grants, limit_of_simulation, limit_of_users};
 
-    /// The greatest limits, by which no entry is left to anybody.
+    /// The greatest limits, by which no entry is left to anybody, and bytes are not counted.
     pub const GREATEST: Limits = Limits {
         log: 4_194_304,
         for_users: 0,
         for_operator: 0,
         for_closes: 0,
+        bytes: None,
         book: BookLimits {
             races: 65_536,
             steps: 16_777_216,

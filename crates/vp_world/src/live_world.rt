@@ -9,7 +9,7 @@ ghost use Rattle.vp_sim.specs.declared.error.SimError.TheVariants as sim_error;
 ghost use Rattle.vp_world.specs.declared.event.Event.TheVariants as event;
 ghost use Rattle.vp_world.specs.declared.error.WorldError.TheVariants as world_error;
 ghost use Rattle.vp_answer.specs.declared.reply.Reply.TheVariants as reply;
-ghost use Rattle.vp_world.specs.History.{advance_refusal, asked_at, asked_in, book_refusal, change_of, changed_in, closed_at, granted_to, is_full, is_next_past_goal, is_past_goal, is_slot_full, later, next_session, opened_by, raised, refusal_in, refusal_of_job, refusal_of_log, refusal_of_outcome, refusal_of_session, refusal_of_step, step_refusal, stepped, with_booked, with_job_taken, with_last_for, with_state};
+ghost use Rattle.vp_world.specs.History.{advance_refusal, asked_at, asked_in, book_refusal, change_of, changed_in, closed_at, granted_to, is_full, is_next_past_goal, is_past_goal, is_slot_full, later, next_session, opened_by, raised, refusal_in, refusal_of_job, refusal_of_log, refusal_of_outcome, refusal_of_session, refusal_of_step, step_refusal, stepped, with_booked, with_bytes, with_job_taken, with_last_for, with_state};
 ghost use Rattle.vp_answer.specs.OpenSessions.{index_of};
 ghost use Rattle.vp_world.specs.Worlds.{start};
 
@@ -201,6 +201,13 @@ impl LiveWorld {
             for_closes,
             ..self.limits
         };
+    }
+
+    /// Bounds the bytes of texts in the entries that the log holds.
+    pub fn limit_bytes(&mut self, bytes: u64)
+        ensures { self.new ≡ record self.old { opening = with_bytes self.old.opening bytes } }
+    {
+        self.limits.bytes = Some(bytes);
     }
 
     /// The time slot has as many steps as it takes.

@@ -4,10 +4,11 @@ ghost use Rattle.std.specs.List.{All};
 ghost use Rattle.vp_policy.specs.PolicyState.{Fits};
 ghost use Rattle.vp_world.specs.declared.event.Event.TheVariants as event;
 ghost use Rattle.vp_world.specs.declared.error.WorldError.TheVariants.{NoMemory};
+ghost use Rattle.vp_answer.specs.Sizes.{saturated};
 ghost use Rattle.vp_race.specs.Recording.{kept_of, next_job};
 ghost use Rattle.vp_world.specs.Events.{IsWellFormed};
 ghost use Rattle.vp_world.specs.HiddenNames.{HidesAlike};
-ghost use Rattle.vp_world.specs.History.{Applies, IsLegal, IsReached, answered_by, is_full_of, is_slot_full, limit_of_grants, limit_of_simulation, limit_of_users, most_entries, refused_by, state_after, with_last_for};
+ghost use Rattle.vp_world.specs.History.{Applies, IsLegal, IsReached, answered_by, held_bytes, is_full_of, is_full_of_bytes, is_slot_full, limit_of_grants, limit_of_simulation, limit_of_users, most_entries, refused_by, state_after, with_bytes, with_last_for};
 
 use crate::archive::Archive;
 use crate::entry::{Asked, Entry, LoggedEvent, Login};
@@ -90,6 +91,14 @@ impl World {
         self.present.leave_last(for_users, for_operator, for_closes);
     }
 
+    /// Bounds the bytes of texts in the entries that the log holds: as if the world had opened with this limit.
+    pub fn limit_bytes(&mut self, bytes: u64)
+        requires { self.old.log ≡ [] }
+        ensures { self.new ≡ record self.old { opening = with_bytes self.old.opening bytes } }
+    {
+        self.present.limit_bytes(bytes);
+    }
+
     /// What has happened, in order, since entries were last handed out.
     pub fn log(&self) -> &Log
         ensures log { result.now.entries ≡ drop self.now.handed_out self.now.log }
@@ -113,6 +122,13 @@ impl World {
         ensures within { self.now.handed_out ≤ length self.now.log }
     {
         self.log.handed_out()
+    }
+
+    /// The bytes of texts in the entries that the log holds, as far as 64 bits go.
+    pub fn held_bytes(&self) -> u64
+        ensures { result ≡ saturated (held_bytes self.now.handed_out self.now.log) }
+    {
+        self.log.bytes()
     }
 
     /// Hands out the entries that the log holds, all of them, after which it holds none; or reports that the archive refuses them, which
@@ -157,18 +173,24 @@ impl World {
 
     /// The log has no room for an Open or an Ask.
     fn is_full_for_users(&self) -> bool
-        ensures { result ≡ is_full_of (limit_of_users self.now.opening.limits)
-            self.now.handed_out self.now.log }
+        ensures { result ≡ (is_full_of_bytes self.now.opening.limits.bytes
+            self.now.handed_out self.now.log
+            || is_full_of (limit_of_users self.now.opening.limits)
+            self.now.handed_out self.now.log) }
     {
-        self.log.is_full(self.present.limits().limit_of_users())
+        let limits = self.present.limits();
+        self.log.is_full_of_bytes(limits.bytes) || self.log.is_full(limits.limit_of_users())
     }
 
     /// The log has no room for a Grant.
     fn is_full_for_grants(&self) -> bool
-        ensures { result ≡ is_full_of (limit_of_grants self.now.opening.limits)
-            self.now.handed_out self.now.log }
+        ensures { result ≡ (is_full_of_bytes self.now.opening.limits.bytes
+            self.now.handed_out self.now.log
+            || is_full_of (limit_of_grants self.now.opening.limits)
+            self.now.handed_out self.now.log) }
     {
-        self.log.is_full(self.present.limits().limit_of_grants())
+        let limits = self.present.limits();
+        self.log.is_full_of_bytes(limits.bytes) || self.log.is_full(limits.limit_of_grants())
     }
 
     /// The log has no room for a Close.

@@ -1,8 +1,7 @@
 -- What a session is answered reports nothing of the numbers of objects.
-use Rattle.std.proofs.Common.{◌≡◌, ℕ, zero, suc, ◌+◌, ◌≤◌, Bool, false, true, List, [], ◌∷◌, ◌++◌, length, Option, Some, None, refl, ap, sym, subst, ◌∙◌, arith}
-use Rattle.std.specs.Prelude.{cond, fold, ◌==◌, ◌&&◌, ◌||◌, ◌^◌, ◌-◌, drop, max, min, take, nat_le, nat_lt, not, if◌then◌else◌, count_by, filter, is_some, map, option_map, slice_get, slice_set, Result, Ok, Err}
+use Rattle.std.proofs.Common.{◌≡◌, ℕ, zero, suc, ◌+◌, Bool, false, true, List, [], ◌∷◌, ◌++◌, length, Option, Some, None, refl, ap, sym, subst, ◌∙◌, arith}
+use Rattle.std.specs.Prelude.{cond, fold, ◌==◌, ◌||◌, ◌^◌, ◌-◌, drop, max, min, take, nat_le, nat_lt, not, if◌then◌else◌, count_by, filter, is_some, map, option_map, Result, Ok, Err}
 use Rattle.std.specs.List.{list_any}
-use Rattle.std.specs.Option.{option_flatten}
 use Rattle.std.proofs.lemmas.List.{length-map, map-append, map-set}
 use Rattle.vp_bits.specs.declared.bit.Bit.{Bit}
 use Rattle.vp_pragma.specs.declared.rights.Right.{Right}
@@ -29,8 +28,6 @@ use Rattle.vp_vpi.specs.SessionStates.{SessionState, drained, retired, with_due,
 use Rattle.vp_answer.specs.declared.reply.Reply.{Reply}
 use Rattle.vp_answer.specs.declared.query.Query.{Query}
 use Rattle.vp_answer.specs.declared.query.Query.TheVariants as query
-use Rattle.vp_answer.specs.declared.query.ValueFormat.{ValueFormat}
-use Rattle.vp_answer.specs.declared.query.ValueFormat.TheVariants as format
 use Rattle.vp_answer.specs.declared.reply.Reply.TheVariants as reply
 use Rattle.vp_answer.specs.Answers.{Response, unwatch_response, freed, made, only_told, polling, putting, refused, respond, response_by, scanned, reply_with, value_in, watching}
 use Rattle.vp_answer.specs.Renumbering as under

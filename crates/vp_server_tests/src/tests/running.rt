@@ -24,6 +24,7 @@ const SMALL: Limits = Limits {
     for_users: 0,
     for_operator: 0,
     for_closes: 0,
+    bytes: None,
     book: BookLimits {
         races: 16,
         steps: 1_000,
