@@ -1,4 +1,4 @@
-pub mod Handles
+pub mod HandleTables
 pub mod Iterations
 pub mod Scopes
 pub mod RaceLists

@@ -5,3 +5,4 @@ pub mod Lookups
 pub mod Calls
 pub mod SessionStates
 pub mod Renumbered
+pub mod HandleTables

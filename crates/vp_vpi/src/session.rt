@@ -1,13 +1,14 @@
-ghost use Rattle.std.specs.Option.{option_flatten};
-ghost use Rattle.std.specs.Prelude.{◌≡◌, ℕ, [], count_by, is_some, length, map, List, None, Option, option_map, slice_get, slice_set, Ok, IfErr, IfOk, IsOkAnd, IsOkUnless, IsSome, IsTrue, OnErr, OnOk};
+ghost use Rattle.std.specs.Prelude.{◌≡◌, ℕ, length, map, None, Option, option_map, Ok, IfErr, IfOk, IsOkAnd, IsOkUnless, IsSome, IsTrue, OnErr, OnOk};
 ghost use Rattle.vp_vpi.specs.Lookups.{found_shown};
 ghost use Rattle.vp_vpi.specs.Calls.{Explains, Refuses, allowed, handle_of, iterated, iteration, iteration_in_room, listed_of, number_of, object_found, put_of, same_of, scope_of, text_at, text_of, value_of};
 ghost use Rattle.vp_vpi.specs.SessionStates.{has_room, new_session_state, next_handle, object_of, with_handle, with_handles, without_handle};
 
 mod callbacks;
+mod handle_table;
 mod races;
 mod renumbering;
 
+use self::handle_table::HandleTable;
 use crate::error::VpiError;
 use crate::iteration::{Iteration, of_kind};
 use crate::observer::{Found, Observe};
@@ -31,51 +32,20 @@ pub const HANDLE_LIMIT: usize = 65_536;
 pub struct Session {
     alloc: Global,
     user: UserId,
-    /// Of each handle that was made, its object; none where it was freed.
-    handles: Vec<Option<ObjectId>>,
-    /// How many handles are not freed.
-    open_handles: usize,
+    handles: HandleTable,
     registry: Registry,
 }
 
 impl Model for Session {
-    ghost use Rattle.std.specs.Prelude.{◌≡◌, count_by, is_some};
     ghost use Rattle.vp_vpi.specs.SessionStates.{SessionState};
 
     ghost Value = { SessionState };
 
     ghost view = { λ s. record {
       user = s.user.0;
-      handles = s.handles.items;
+      handles = s.handles;
       registry = s.registry;
     } };
-
-    ghost invariant = { λ s. s.open_handles ≡ count_by is_some s.handles.items };
-}
-
-/// The object at an index of a list of handles; none where it was freed, and past the end.
-fn object_at(handles: &[Option<ObjectId>], index: usize) -> Option<ObjectId>
-    ensures { result ≡ option_flatten (slice_get handles.now index) }
-{
-    handles.get(index).copied().flatten()
-}
-
-/// Frees the handle at an index of a list; reports whether it was one.
-fn take_at(handles: &mut Vec<Option<ObjectId>>, index: usize) -> bool
-    ensures taken { handles.new.items ≡ slice_set handles.old.items index None }
-    ensures there { result ≡ is_some (option_flatten (slice_get handles.old.items index)) }
-{
-    match handles.get_mut(index) {
-        Some(object) => object.take().is_some(),
-        None => false,
-    }
-}
-
-/// How many of these handles are not freed.
-fn open_in(handles: &[Option<ObjectId>]) -> usize
-    ensures { result ≡ count_by is_some handles.now }
-{
-    handles.iter().filter(|handle| handle.is_some()).count()
 }
 
 impl Session {
@@ -88,8 +58,7 @@ impl Session {
         Ok(Session {
             alloc,
             user,
-            handles: Vec::new(alloc),
-            open_handles: 0,
+            handles: HandleTable::new(alloc),
             registry,
         })
     }
@@ -106,7 +75,7 @@ impl Session {
         ensures { option_map (λ o. o.0) result ≡ object_of self.now.handles handle }
     {
         let index = (handle as usize).checked_sub(1)?;
-        object_at(&self.handles, index)
+        self.handles.object(index)
     }
 
     /// There is room for so many handles more.
@@ -114,7 +83,7 @@ impl Session {
         ensures { result ≡ has_room more self.now.handles }
     {
         more <= HANDLE_LIMIT
-            && self.open_handles <= HANDLE_LIMIT - more
+            && self.handles.open_count() <= HANDLE_LIMIT - more
             && self.handles.len() <= u32::MAX as usize - more
     }
 
@@ -223,8 +192,7 @@ impl Session {
         ensures unchanged { OnErr result (self.new ≡ self.old) }
     {
         let object = self.named(observation, scope, name)?;
-        self.handles.push(Some(object))?;
-        self.open_handles += 1;
+        self.handles.push(object)?;
         Ok(self.handles.len() as u32)
     }
 
@@ -315,9 +283,7 @@ impl Session {
         ensures made { OnOk result (self.new ≡ with_handles iteration.now.handles self.old) }
         ensures unchanged { OnErr result (self.new ≡ self.old) }
     {
-        self.handles.extend_from_slice(iteration.handles())?;
-        self.open_handles += open_in(iteration.handles());
-        Ok(())
+        self.handles.extend(iteration.handles())
     }
 
     /// A number of a handle's object. Refused where the number is no handle (1101), the user may not list the object (1109), or it has no
@@ -457,10 +423,10 @@ impl Session {
         let Some(index) = (handle as usize).checked_sub(1) else {
             return Err(VpiError::BadHandle);
         };
-        if !take_at(&mut self.handles, index) {
-            return Err(VpiError::BadHandle);
+        if self.handles.take(index) {
+            Ok(())
+        } else {
+            Err(VpiError::BadHandle)
         }
-        self.open_handles -= 1;
-        Ok(())
     }
 }
