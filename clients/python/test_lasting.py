@@ -11,11 +11,13 @@ import time
 import unittest
 from pathlib import Path
 from types import TracebackType
-from typing import IO, List, Optional, Type
+from typing import IO, List, Optional, Tuple, Type
 
 from test_loddrume import PROGRAM, free_port, needs_serve
 
 DESIGN = "module top; reg c; initial begin c = 0; forever #1 c = ~c; end endmodule\n"
+GOING_ROUND = "module top; reg c; initial begin c = 0; forever c = ~c; end endmodule\n"
+GONE_ROUND = "top.initial@1:20 goes round: its time slot has 4194304 steps, and stands still until a put\n"
 POLICY = {"users": [{"name": "ann", "token": "t1", "open": "list+read", "run": True}]}
 
 # A log that is kept holds so many entries. The last 65,536 the simulation leaves to others, users the last 4,096 to the operator and to closes.
@@ -25,17 +27,18 @@ USERS = HELD - 4_096
 
 
 class Served:
-    """A server of the design, and a client of it."""
+    """A server of a design, and a client of it."""
 
-    def __init__(self, *words: str) -> None:
+    def __init__(self, *words: str, design: str = DESIGN) -> None:
         self.folder = tempfile.TemporaryDirectory()
         folder = Path(self.folder.name)
-        (folder / "d.v").write_text(DESIGN)
+        (folder / "d.v").write_text(design)
         (folder / "p.json").write_text(json.dumps(POLICY))
         port = free_port()
         asked = [PROGRAM, "serve", "d.v", "p.json", "--port", str(port), "--workers", "0", "--sessions", "1", *words]
-        self.process = subprocess.Popen(asked, cwd=folder, stdout=subprocess.PIPE, encoding="utf-8")
-        assert self.process.stdout
+        self.process = subprocess.Popen(asked, cwd=folder, stdout=subprocess.PIPE, stderr=subprocess.PIPE, encoding="utf-8")
+        assert self.process.stdout and self.process.stderr
+        self.errors: IO[str] = self.process.stderr
         self.listening = self.process.stdout.readline()
         self.connection = socket.create_connection(("127.0.0.1", port), 60)
         self.stream: IO[str] = self.connection.makefile("rw", encoding="utf-8", newline="\n")
@@ -70,10 +73,10 @@ class Served:
         self.stream.close()
         self.connection.close()
 
-    def end(self) -> str:
-        """Ends the connection, and gives what the server prints at its end."""
+    def end(self) -> Tuple[str, str]:
+        """Ends the connection, and gives what the server prints at its end, and all that it said on standard error."""
         self.hang_up()
-        return self.process.communicate(timeout=60)[0]
+        return self.process.communicate(timeout=60)
 
 
 OPEN = '{"op":"open","token":"t1","user":"ann"}'
@@ -93,7 +96,7 @@ class Lasting(unittest.TestCase):
                 time.sleep(0.1)
             self.assertEqual(served.ask('{"op":"time"}', '{"h":1,"op":"value"}'), [f'{{"finished":false,"time":{until}}}', '{"value":"0"}'])
             memory = served.most_memory()
-            closed = served.end()
+            closed, _ = served.end()
         self.assertGreater(int(closed.split()[1]), HELD)
         self.assertLess(memory, 64 << 10)
 
@@ -105,6 +108,15 @@ class Lasting(unittest.TestCase):
             for _ in range(2_000):
                 self.assertEqual(served.ask(asked), ['{"error":"no such name"}'])
             self.assertLess(served.most_memory(), 64 << 10)
+
+    def test_a_slot_that_goes_round(self) -> None:
+        """The simulation stands still after 4,194,304 steps, and the server says once which process goes round."""
+        with Served(design=GOING_ROUND) as served:
+            served.ask(OPEN, '{"op":"run","until":0}')
+            self.assertEqual(served.errors.readline(), GONE_ROUND)
+            self.assertEqual(served.ask('{"op":"time"}'), ['{"finished":false,"time":0}'])
+            closed, errors = served.end()
+        self.assertEqual((closed, errors), (f"closed {HELD + 4}\n", ""))
 
     def test_a_log_that_is_kept(self) -> None:
         """The simulation stands still, then requests are refused, and a close is not."""
@@ -119,7 +131,7 @@ class Lasting(unittest.TestCase):
                 answers = served.ask(*['{"op":"time"}'] * 1_000)
             self.assertLessEqual(set(answers), {f'{{"finished":false,"time":{found[-1]}}}', '{"error":"log full"}'})
             self.assertEqual(served.ask('{"op":"close"}'), ['{"ok":true}'])
-            closed = served.end()
+            closed, _ = served.end()
         self.assertEqual(closed, f"closed {USERS + 1}\n")
 
 

@@ -297,19 +297,24 @@ impl<L: NamesOpening> Desk<L> {
         };
     }
 
-    /// The time slot has as many steps as it takes.
-    pub(crate) fn is_slot_full(&self) -> bool {
-        self.world.is_slot_full()
+    /// The name of the process that goes round in a time slot with as many steps as it takes, as the world has it.
+    pub(crate) fn going_round(&self) -> Result<Option<Text>, AllocError> {
+        self.world.going_round()
     }
 
     /// Lets the next event of the simulation happen: the first that a step can take, or, where nothing is left to do at the current
-    /// time, an advance; else its refusal, which leaves the desk as it was.
+    /// time, or the time slot has as many steps as it takes, an advance; else its refusal, which leaves the desk as it was.
     pub(crate) fn run_next(&mut self) -> Result<(), HubError>
         ensures { OnErr result (self.new ≡ self.old) }
     {
-        match self.event(Event::Step(0)) {
+        let next = if self.world.is_slot_full() {
+            Event::Advance
+        } else {
+            Event::Step(0)
+        };
+        match self.event(next) {
             Err(HubError::World(WorldError::Sim(SimError::Idle))) => self.event(Event::Advance)?,
-            stepped => stepped?,
+            happened => happened?,
         };
         Ok(())
     }

@@ -11,7 +11,7 @@ use crate::desk::Desk;
 use crate::error::HubError;
 use crate::opens::NamesOpening;
 use crate::pass::Pass;
-use std::alloc::Global;
+use std::alloc::{AllocError, Global};
 use std::collections::VecDeque;
 use std::hint::spin_loop;
 use std::sync::atomic::{AtomicUsize, Ordering};
@@ -65,9 +65,6 @@ fn run_events<L: NamesOpening>(
         match desk.run_next() {
             Ok(()) => {}
             Err(HubError::World(WorldError::BeyondGoal | WorldError::Sim(_))) => {
-                return Ok(Ran { events, idle: true });
-            }
-            Err(HubError::World(WorldError::LogFull)) if desk.is_slot_full() => {
                 return Ok(Ran { events, idle: true });
             }
             Err(error) => return Err(error),
@@ -205,6 +202,11 @@ impl<L: NamesOpening> Hub<L> {
         let ran = run_events(&mut desk, most.min(EVENTS_UNDER_LOCK), &self.waiting);
         desk.hand_out();
         ran
+    }
+
+    /// The name of the process that goes round in a full time slot, if one does. Takes memory.
+    pub(crate) fn going_round<R: Wait>(&self, rt: &R) -> Result<Option<Text>, AllocError> {
+        self.desk.lock(rt).going_round()
     }
 
     /// Leaves the lock for a moment to those who wait for it.

@@ -10,6 +10,7 @@ use crate::close::Closed;
 use crate::desk::Desk;
 use crate::hub::Hub;
 use crate::opens::NamesOpening;
+use crate::report::Report;
 use crate::server_error::ServerError;
 use crate::service::Service;
 use crate::settings::Settings;
@@ -36,7 +37,7 @@ fn start<
     E,
     L: NamesOpening + Send + Sync,
     R: Threads + Wait + Clock + Sync,
-    G: Gate + Sync,
+    G: Gate + Report + Sync,
 >(rt: &'s R, scope: &'s Scope<'s, E>, service: &'s Service<'a, L, G>) -> bool {
     if scope.spawn(move || run_simulation(rt, service)).is_err() {
         return false;
@@ -51,11 +52,12 @@ fn start<
 
 /// Serves the connections of a listener, each in a thread, until they have ended; and reports whether the threads could be started that serve
 /// all of them.
-fn run<'a, L: NamesOpening + Send + Sync, R: Threads + Wait + Clock + Sync, G: Gate + Sync>(
-    rt: &R,
-    service: &Service<'a, L, G>,
-    listener: &TcpListener,
-) -> bool {
+fn run<
+    'a,
+    L: NamesOpening + Send + Sync,
+    R: Threads + Wait + Clock + Sync,
+    G: Gate + Report + Sync,
+>(rt: &R, service: &Service<'a, L, G>, listener: &TcpListener) -> bool {
     thread::scope(thread::scope_env(), rt, move |scope| {
         let started = start(rt, scope, service);
         if started {
@@ -81,7 +83,11 @@ fn archive_of(settings: &Settings) -> LogArchive
 
 /// Serves a world in which nothing has happened to the connections of a listener, and gives what is left of it; or reports that a thread
 /// can't be started (1606), or why the hub can't be closed (1402).
-fn serve_world<L: NamesOpening + Send + Sync, R: Threads + Wait + Clock + Sync, G: Gate + Sync>(
+fn serve_world<
+    L: NamesOpening + Send + Sync,
+    R: Threads + Wait + Clock + Sync,
+    G: Gate + Report + Sync,
+>(
     rt: &R,
     alloc: Global,
     blank: Blank,
@@ -124,7 +130,7 @@ pub fn serve<R, G>(
 ) -> Result<Closed, ServerError>
 where
     R: Threads + Wait + Clock + Sync,
-    G: Gate + Sync,
+    G: Gate + Report + Sync,
     requires empty { world.log ≡ [] }
     ensures closed { IfOk result (λ closed. IsClosed world.opening closed) }
 {

@@ -10,8 +10,8 @@ use std::rt::Files;
 use std::sync::Wait;
 use std::thread::Threads;
 use std::time::Clock;
-use vp_hub::{Closed, ServerError, Settings, serve};
-use vp_race::OpenGate;
+use vp_hub::{Closed, Report, ServerError, Settings, serve};
+use vp_race::Gate;
 use vp_script::{Failure, ServeFault, SourceFiles, fresh_world};
 use vp_wire::WireError;
 use vp_world::World;
@@ -88,9 +88,31 @@ fn entry_count(closed: Closed) -> u64 {
     entries
 }
 
+/// The standard error of whoever runs a server.
+#[derive(Clone, Copy)]
+struct Console<'a, R> {
+    rt: &'a R,
+}
+
+impl<R> Gate for Console<'_, R> {
+    ghost stays_open = { λ _. Unit {0} };
+
+    fn turn(&self) -> bool {
+        true
+    }
+}
+
+impl<R: Eprint> Report for Console<'_, R> {
+    fn goes_round(&self, process: &str) {
+        let _ = eprintln!(self.rt;
+            "{process} goes round: its time slot has 4194304 steps, and stands still until a put"
+        );
+    }
+}
+
 /// Serves a world in which nothing has happened to whoever connects to a listener, and gives the number of the log's entries at the end; or
 /// the fault of `vp_hub::serve`.
-fn serve_world<R: AllocGlobal + Threads + Wait + Clock + Sync>(
+fn serve_world<R: AllocGlobal + Eprint + Threads + Wait + Clock + Sync>(
     rt: &R,
     world: World,
     settings: Settings,
@@ -98,7 +120,8 @@ fn serve_world<R: AllocGlobal + Threads + Wait + Clock + Sync>(
 ) -> Result<u64, Failure>
     requires empty { world.log ≡ [] }
 {
-    match serve(rt, rt.alloc(), world, settings, listener, &OpenGate) {
+    let console = Console { rt };
+    match serve(rt, rt.alloc(), world, settings, listener, &console) {
         Ok(closed) => Ok(entry_count(closed)),
         Err(fault) => Err(failure_of(rt.alloc(), fault)),
     }
@@ -118,6 +141,7 @@ where
     R: AllocGlobal
         + Files
         + Print
+        + Eprint
         + Net<Listener = TcpListener, Stream = TcpStream>
         + Threads
         + Wait

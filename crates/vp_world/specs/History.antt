@@ -1,5 +1,5 @@
 -- The world as a function of its events.
-use Rattle.std.specs.Prelude.{◌≡◌, ℕ, ◌+◌, ◌-◌, ◌^◌, ◌||◌, drop, nat_le, nat_lt, max, Bool, true, false, if◌then◌else◌, List, [], ◌∷◌, ◌++◌, length, fold, map, slice_get, slice_index, slice_set, Option, Some, None, is_none, option_and_then, option_map, Result, IfErr, OnErr, OnOk}
+use Rattle.std.specs.Prelude.{◌≡◌, ℕ, ◌+◌, ◌-◌, ◌^◌, ◌&&◌, ◌||◌, drop, nat_le, nat_lt, max, Bool, true, false, if◌then◌else◌, List, [], ◌∷◌, ◌++◌, length, fold, map, slice_get, slice_index, slice_set, Option, Some, None, is_none, option_and_then, option_map, Result, IfErr, OnErr, OnOk}
 use Rattle.std.specs.List.{remove}
 use Rattle.std.specs.Option.{option_map_or}
 use Rattle.vp_text.specs.Refusals.{Explains}
@@ -7,6 +7,7 @@ use Rattle.vp_bits.specs.declared.bit.Bit.{Bit}
 use Rattle.vp_policy.specs.PolicyState.{PolicyState}
 use Rattle.vp_policy.specs.Regrants.{is_operator, regranted}
 use Rattle.vp_policy.specs.Users.{Member, login_of, member_at, user_of}
+use Rattle.vp_elab.specs.declared.object.ObjectId.{ObjectId}
 use Rattle.vp_expr.specs.declared.change.Change.{Change}
 use Rattle.vp_race.specs.declared.error.RaceError.{RaceError}
 use Rattle.vp_race.specs.Booking.{refusal_of_finding}
@@ -92,6 +93,10 @@ slot_limit = 4194304
 -- the time slot has as many steps as it takes
 abbrev pub is_slot_full : State → Bool
 is_slot_full s = nat_le slot_limit (length s.segments.opened.order)
+
+-- the process that goes round in a full time slot, by its object: whose event a step would take, if there is one
+abbrev pub going_round : State → Option ObjectId
+going_round s = if is_slot_full s && nat_lt 0 (length (sim.eligible s.run)) then Some (sim.source_of s.run 0) else None
 
 -- why a step or an advance is refused: a full log, a goal that does not reach so far, then the simulation's refusal (profile)
 abbrev pub refusal_of_step : Bool → Bool → sim.Outcome → Option WorldError

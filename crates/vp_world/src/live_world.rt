@@ -9,7 +9,7 @@ ghost use Rattle.vp_sim.specs.declared.error.SimError.TheVariants as sim_error;
 ghost use Rattle.vp_world.specs.declared.event.Event.TheVariants as event;
 ghost use Rattle.vp_world.specs.declared.error.WorldError.TheVariants as world_error;
 ghost use Rattle.vp_answer.specs.declared.reply.Reply.TheVariants as reply;
-ghost use Rattle.vp_world.specs.History.{advance_refusal, asked_at, asked_in, book_refusal, change_of, changed_in, closed_at, granted_to, is_full, is_next_past_goal, is_past_goal, is_slot_full, later, next_session, opened_by, raised, refusal_in, refusal_of_job, refusal_of_log, refusal_of_outcome, refusal_of_session, refusal_of_step, step_refusal, stepped, with_booked, with_bytes, with_job_taken, with_last_for, with_state};
+ghost use Rattle.vp_world.specs.History.{advance_refusal, asked_at, asked_in, book_refusal, change_of, changed_in, closed_at, going_round, granted_to, is_full, is_next_past_goal, is_past_goal, is_slot_full, later, next_session, opened_by, raised, refusal_in, refusal_of_job, refusal_of_log, refusal_of_outcome, refusal_of_session, refusal_of_step, step_refusal, stepped, with_booked, with_bytes, with_job_taken, with_last_for, with_state};
 ghost use Rattle.vp_answer.specs.OpenSessions.{index_of};
 ghost use Rattle.vp_world.specs.Worlds.{start};
 
@@ -22,6 +22,7 @@ use std::marker::Model;
 use std::snapshot::Snapshot;
 use std::sync::Arc;
 use vp_answer::{GrantChange, OpenSession, Query, SessionId, retire_sessions, session_index};
+use vp_elab::{Design, ObjectId};
 use vp_expr::Change;
 use vp_policy::{Policy, UserId};
 use vp_race::{Book, BookedFinding, Finding, Recording, Segment};
@@ -216,6 +217,25 @@ impl LiveWorld {
         ensures { result ≡ is_slot_full self.now.state }
     {
         self.run.has_steps(SLOT_LIMIT)
+    }
+
+    /// The process that goes round in a full time slot, by its object.
+    pub fn going_round(&self) -> Option<ObjectId>
+        ensures { result ≡ going_round self.now.state }
+    {
+        let simulation = self.run.simulation();
+        if self.is_slot_full() && simulation.eligible() > 0 {
+            Some(simulation.source(0))
+        } else {
+            None
+        }
+    }
+
+    /// The design.
+    pub fn design(&self) -> &Design
+        ensures { result.now ≡ self.now.opening.design }
+    {
+        self.run.simulation().design()
     }
 
     /// The current time, in time units.

@@ -13,7 +13,11 @@ use vp_text::{Sequence, Shared, Text};
 use vp_vpi::ShownRace;
 
 /// The name of a step of an object; or out of memory.
-fn step_name(alloc: Global, design: &Design, object: ObjectId) -> Result<Text, AllocError>
+pub(crate) fn step_name(
+    alloc: Global,
+    design: &Design,
+    object: ObjectId,
+) -> Result<Text, AllocError>
     ensures { IfOk result (λ name. name ≡ step_name design.now.tree object.0) }
 {
     let name = design.full_name(alloc, object)?;

@@ -1,4 +1,4 @@
-ghost use Rattle.std.specs.Prelude.{◌≡◌, ◌≤◌, ◌||◌, [], false, true, drop, length, option_copied, IfErr, IfOk, IfSome, IsOkUnless, None, OnOk, Some};
+ghost use Rattle.std.specs.Prelude.{◌≡◌, ◌≤◌, ◌||◌, [], false, true, drop, length, option_copied, option_map, IfErr, IfOk, IfSome, IsOkUnless, None, OnOk, Some};
 ghost use Rattle.std.specs.Arc.{arc_value};
 ghost use Rattle.std.specs.List.{All};
 ghost use Rattle.vp_policy.specs.PolicyState.{Fits};
@@ -8,7 +8,8 @@ ghost use Rattle.vp_answer.specs.Sizes.{saturated};
 ghost use Rattle.vp_race.specs.Recording.{kept_of, next_job};
 ghost use Rattle.vp_world.specs.Events.{IsWellFormed};
 ghost use Rattle.vp_world.specs.HiddenNames.{HidesAlike};
-ghost use Rattle.vp_world.specs.History.{Applies, IsLegal, IsReached, answered_by, held_bytes, is_full_of, is_full_of_bytes, is_slot_full, limit_of_grants, limit_of_simulation, limit_of_users, most_entries, refused_by, state_after, with_bytes, with_last_for};
+ghost use Rattle.vp_world.specs.Races.{step_name};
+ghost use Rattle.vp_world.specs.History.{Applies, IsLegal, IsReached, answered_by, going_round, held_bytes, is_full_of, is_full_of_bytes, is_slot_full, limit_of_grants, limit_of_simulation, limit_of_users, most_entries, refused_by, state_after, with_bytes, with_last_for};
 
 use crate::archive::Archive;
 use crate::entry::{Asked, Entry, LoggedEvent, Login};
@@ -18,7 +19,8 @@ use crate::journal::Journal;
 use crate::limits::Limits;
 use crate::live_world::LiveWorld;
 use crate::log::Log;
-use std::alloc::Global;
+use crate::shown_races::step_name;
+use std::alloc::{AllocError, Global};
 use std::marker::Model;
 use std::sync::Arc;
 use vp_answer::{GrantChange, Query, Reply, SessionId};
@@ -169,6 +171,19 @@ impl World {
         ensures { result ≡ is_slot_full (state_after self.now.opening self.now.log) }
     {
         self.present.is_slot_full()
+    }
+
+    /// The name of the process that goes round in a time slot with as many steps as it takes: of the one whose event would be next. None where
+    /// the slot has fewer, or nothing is left to do in it. Takes memory.
+    pub fn going_round(&self) -> Result<Option<Text>, AllocError>
+        ensures { IfOk result (λ name. name ≡ option_map
+            (λ o. step_name self.now.opening.design.tree o.0)
+            (going_round (state_after self.now.opening self.now.log))) }
+    {
+        let Some(process) = self.present.going_round() else {
+            return Ok(None);
+        };
+        Ok(Some(step_name(self.alloc, self.present.design(), process)?))
     }
 
     /// The log has no room for an Open or an Ask.

@@ -7,7 +7,7 @@ use std::net::{Net, TcpStream};
 use std::sync::atomic::{AtomicU32, Ordering};
 use std::thread;
 use std::time::{Clock, Duration};
-use vp_hub::Settings;
+use vp_hub::{Report, Settings};
 use vp_race::{Gate, OpenGate};
 
 /// The three requests of a short session, and their replies.
@@ -39,6 +39,10 @@ struct Held<R> {
     rt: R,
     turns: AtomicU32,
     in_time: AtomicU32,
+}
+
+impl<R> Report for Held<R> {
+    fn goes_round(&self, _process: &str) {}
 }
 
 impl<R: Clock> Gate for Held<R> {

@@ -6,7 +6,7 @@ use std::net::{Ipv4Addr, Net, TcpListener, TcpStream};
 use std::sync::Wait;
 use std::thread::{Threads, join};
 use std::time::Clock;
-use vp_hub::{Limits, Settings, serve};
+use vp_hub::{Limits, Report, Settings, serve};
 use vp_race::Gate;
 
 /// A policy with two users, of whom the second has all rights in the envelope, and an operator.
@@ -40,7 +40,7 @@ impl Server {
 fn served<R, G>(rt: &R, alloc: Global, text: &str, server: Server, gate: &G) -> Result<u64, u32>
 where
     R: Net<Listener = TcpListener, Stream = TcpStream> + Threads + Wait + Clock + Sync,
-    G: Gate + Sync,
+    G: Gate + Report + Sync,
 {
     let Server {
         limits,
@@ -75,7 +75,7 @@ pub fn beside<R, G, C, T>(
 ) -> (Result<u64, u32>, T)
 where
     R: Net<Listener = TcpListener, Stream = TcpStream> + Threads + Wait + Clock + Sync,
-    G: Gate + Sync,
+    G: Gate + Report + Sync,
     C: FnOnce() -> T,
     requires clients { C.pre clients }
 {
