@@ -29,18 +29,18 @@ USERS = HELD - 4_096
 class Served:
     """A server of a design, and a client of it."""
 
-    def __init__(self, *words: str, design: str = DESIGN) -> None:
+    def __init__(self, *words: str, design: str = DESIGN, policy: object = POLICY, workers: int = 0, sessions: int = 1) -> None:
         self.folder = tempfile.TemporaryDirectory()
         folder = Path(self.folder.name)
         (folder / "d.v").write_text(design)
-        (folder / "p.json").write_text(json.dumps(POLICY))
-        port = free_port()
-        asked = [PROGRAM, "serve", "d.v", "p.json", "--port", str(port), "--workers", "0", "--sessions", "1", *words]
+        (folder / "p.json").write_text(json.dumps(policy))
+        self.port = free_port()
+        asked = [PROGRAM, "serve", "d.v", "p.json", "--port", str(self.port), "--workers", str(workers), "--sessions", str(sessions), *words]
         self.process = subprocess.Popen(asked, cwd=folder, stdout=subprocess.PIPE, stderr=subprocess.PIPE, encoding="utf-8")
         assert self.process.stdout and self.process.stderr
         self.errors: IO[str] = self.process.stderr
         self.listening = self.process.stdout.readline()
-        self.connection = socket.create_connection(("127.0.0.1", port), 60)
+        self.connection = socket.create_connection(("127.0.0.1", self.port), 60)
         self.stream: IO[str] = self.connection.makefile("rw", encoding="utf-8", newline="\n")
 
     def __enter__(self) -> "Served":
@@ -64,9 +64,13 @@ class Served:
         return found
 
     def most_memory(self) -> int:
-        """The most memory that it had at any time, in KiB (proc(5))."""
+        """The most memory that it had at any time, or since that was forgotten, in KiB (proc(5))."""
         status = Path(f"/proc/{self.process.pid}/status").read_text()
         return int(re.findall(r"^VmHWM:\s+(\d+) kB$", status, re.MULTILINE)[0])
+
+    def forget_most_memory(self) -> None:
+        """Lets the most memory be what it has now."""
+        Path(f"/proc/{self.process.pid}/clear_refs").write_text("5")
 
     def hang_up(self) -> None:
         """Ends the connection."""
