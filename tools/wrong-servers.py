@@ -36,7 +36,7 @@ WRONG: List[Wrong] = [
         " else {", ";\n        drop(held);\n        let Ok(findings) = found else {"), "vp_server_tests"),
     Wrong("close_always_mismatched", "vp_hub", "desk.rt", "        if !desk.passes_out.is_empty() {\n", "        if desk.log().len() < 100_000_000 {\n", "vp_server_tests"),
     Wrong("open_always_without_memory", "vp_hub", "hub.rt", "        let pass = desk.open(user, token)?;\n", "        let pass = desk.open(user, token)?;\n        drop(pass);\n        let pass = Err(HubError::World(WorldError::NoMemory))?;\n", "vp_server_tests"),
-    Wrong("grant_logs_nothing", "vp_hub", "hub.rt", "self.desk(rt).event(Event::Grant(change))", "{ drop(change); Ok(Reply::Done) }", "vp_server_tests"),
+    Wrong("grant_logs_nothing", "vp_hub", "hub.rt", "        let answer = desk.event(Event::Grant(change))?;\n", "        drop(change);\n        let answer = Reply::Done;\n", "vp_server_tests"),
     Wrong("all_connections_on_one_thread", "vp_hub", "accept.rt", SPAWN, "    serve_connection(rt, service, stream);\n    if false {", "vp_server_tests"),
     Wrong("gate_not_asked", "vp_hub", "client.rt", "        let _open = self.gate.turn();\n", "", "vp_server_tests"),
     Wrong("pass_not_handed_back", "vp_hub", "connection.rt", "        let _returned = service.hub.hand_back(rt, pass);\n", "        drop(pass);\n", "vp_server_tests"),
