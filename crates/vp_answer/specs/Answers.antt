@@ -7,6 +7,8 @@ use Rattle.vp_vpi.specs.declared.error.VpiError.TheVariants as vpi
 use Rattle.vp_vpi.specs.Calls.{Iterated, handle_of, iterated, lines_of, number_of, or_refusal, put_of, race_of, same_of, text_of, value_of, watched_of}
 use Rattle.vp_vpi.specs.Observers.{Observer}
 use Rattle.vp_vpi.specs.SessionStates.{SessionState, drained, next_handle, object_of, polled, with_callback, with_handle, with_handles, without_callback, without_handle}
+use Rattle.vp_answer.specs.declared.goal.GoalChange.{GoalChange}
+use Rattle.vp_answer.specs.declared.goal.GoalChange.TheVariants.{Ends, RisesTo, Stays}
 use Rattle.vp_answer.specs.declared.query.Query.{Query}
 use Rattle.vp_answer.specs.declared.query.Query.TheVariants as query
 use Rattle.vp_answer.specs.declared.query.ValueFormat.{ValueFormat}
@@ -15,17 +17,17 @@ use Rattle.vp_answer.specs.declared.reply.Refusal.TheVariants as refusal
 use Rattle.vp_answer.specs.declared.reply.Reply.{Reply}
 use Rattle.vp_answer.specs.declared.reply.Reply.TheVariants as reply
 
--- what comes of a query: its reply, the session after it, the goal that it sets, if it sets one, and the value that it puts on
--- an object, if it puts one
+-- what comes of a query: its reply, the session after it, what it does to the goal, and the value that it puts on an object, if it puts
+-- one
 pub record Response : Type 0 where
   pub reply : Reply
   pub session_state : SessionState
-  pub goal : Option ℕ
+  pub goal : GoalChange
   pub put : Option (ℕ × List Bit)
 
 -- a reply from which nothing else comes
 abbrev pub only_told : SessionState → Reply → Response
-only_told session_state r = record { reply = r; session_state = session_state; goal = None; put = None }
+only_told session_state r = record { reply = r; session_state = session_state; goal = Stays; put = None }
 
 -- the reply to a query that a session refused: a denial is reported in words (profile)
 abbrev pub refused : VpiError → Reply
@@ -55,7 +57,7 @@ abbrev pub made : SessionState → ℕ → Response
 made session_state object = record {
   reply = reply.Handle (next_handle session_state.handles);
   session_state = with_handle object session_state;
-  goal = None;
+  goal = Stays;
   put = None;
 }
 
@@ -64,20 +66,20 @@ abbrev pub scanned : SessionState → Iterated → Response
 scanned session_state found = record {
   reply = reply.Listing found.listing;
   session_state = with_handles found.handles session_state;
-  goal = None;
+  goal = Stays;
   put = None;
 }
 
 -- what comes of a handle that is freed
 abbrev pub freed : SessionState → (handle : ℕ) → Response
-freed session_state handle = record { reply = reply.Done; session_state = without_handle handle session_state; goal = None; put = None }
+freed session_state handle = record { reply = reply.Done; session_state = without_handle handle session_state; goal = Stays; put = None }
 
 -- what comes of a callback that is registered on an object: its number is reported, and the session has it
 abbrev pub watching : SessionState → ℕ → Response
 watching session_state object = record {
   reply = reply.Callback (session_state.registry.given + 1);
   session_state = with_callback object session_state;
-  goal = None;
+  goal = Stays;
   put = None;
 }
 
@@ -94,19 +96,19 @@ polling session_state = only_told (drained session_state) (reply.Notices (polled
 
 -- what comes of a value that is put on an object
 abbrev pub putting : SessionState → ℕ × List Bit → Response
-putting session_state p = record { reply = reply.Done; session_state = session_state; goal = None; put = Some p }
+putting session_state p = record { reply = reply.Done; session_state = session_state; goal = Stays; put = Some p }
 
 -- a value in a format
 abbrev pub value_in : ValueFormat → List Bit → Reply
 value_in format.Binary bits = reply.Value bits
 value_in format.Vector bits = reply.Vector bits
 
--- what comes of a query to let the design run until a time, where the user may, and where he may not
-abbrev pub run_response : Observer → SessionState → (until : ℕ) → Response
-run_response observation session_state until = record {
+-- what comes of a query to change the goal, where the user may let the design run, and where he may not
+abbrev pub steering : Observer → SessionState → GoalChange → Response
+steering observation session_state change = record {
   reply = if observation.may_run then reply.Done else reply.RunDenied;
   session_state = session_state;
-  goal = if observation.may_run then Some until else None;
+  goal = if observation.may_run then change else Stays;
   put = None;
 }
 
@@ -128,5 +130,6 @@ respond observation session_state (query.Unwatch callback) = unwatch_response se
 respond observation session_state query.Poll = polling session_state
 respond observation session_state (query.Races from) = only_told session_state (reply.Races (lines_of observation from))
 respond observation session_state (query.Race number) = reply_with session_state reply.Race (race_of observation number)
-respond observation session_state (query.Run until) = run_response observation session_state until
+respond observation session_state (query.Run until) = steering observation session_state (RisesTo until)
+respond observation session_state query.Stop = steering observation session_state Ends
 respond observation session_state query.Time = only_told session_state (reply.Time observation.time observation.finished)

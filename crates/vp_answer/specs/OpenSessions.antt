@@ -1,5 +1,5 @@
 -- Open sessions, each with its name.
-use Rattle.std.specs.Prelude.{ℕ, ◌==◌, ◌&&◌, if◌then◌else◌, Bool, List, Option}
+use Rattle.std.specs.Prelude.{ℕ, ◌==◌, ◌&&◌, count_by, filter, if◌then◌else◌, not, Bool, List, Option}
 use Rattle.std.specs.List.{position}
 use Rattle.vp_policy.specs.PolicyState.{PolicyState}
 use Rattle.vp_policy.specs.Users.{member_at}
@@ -21,6 +21,18 @@ same_session a b = (a.user.0 == b.user.0) && (a.opens == b.opens)
 -- where the open session of a name stands among the open sessions; none where it is not open
 abbrev pub index_of : List OpenSessionState → SessionId → Option ℕ
 index_of sessions id = position (λ s. same_session s.id id) sessions
+
+-- an open session is one of the user of a number
+abbrev pub is_of : (user : ℕ) → OpenSessionState → Bool
+is_of user s = s.id.user.0 == user
+
+-- how many of the open sessions are his
+abbrev pub sessions_of : (user : ℕ) → List OpenSessionState → ℕ
+sessions_of user sessions = count_by (is_of user) sessions
+
+-- the others
+abbrev pub without_user : (user : ℕ) → List OpenSessionState → List OpenSessionState
+without_user user sessions = filter (λ s. not (is_of user s)) sessions
 
 -- an open session after a change at a time, which is due to its callbacks (clause 27.33)
 abbrev pub notified_session : Option Change → (time : ℕ) → OpenSessionState → OpenSessionState

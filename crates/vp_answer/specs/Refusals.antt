@@ -1,7 +1,7 @@
 -- What a line is answered where it is refused.
 use Rattle.std.specs.Prelude.{ℕ, List, codes}
 use Rattle.vp_answer.specs.declared.reply.Refusal.{Refusal}
-use Rattle.vp_answer.specs.declared.reply.Refusal.TheVariants.{BadHandle, WrongKind, BadValue, Finished, TooManyHandles, NoSuchName, TooManyCallbacks, NoSuchCallback, NoSuchRace, SessionsFull, BadToken, NotOpen, BadOperator, NoSuchUser, NoSuchEnvelope, LogFull, BadReceipt, BeyondGoal, NoJob, Simulation, Race, NoMemory}
+use Rattle.vp_answer.specs.declared.reply.Refusal.TheVariants.{BadHandle, WrongKind, BadValue, Finished, TooManyHandles, NoSuchName, TooManyCallbacks, NoSuchCallback, NoSuchRace, SessionsFull, BadToken, NotOpen, BadOperator, NoSuchUser, NoSuchEnvelope, LogFull, BadReceipt, BeyondGoal, NoJob, BadRequest, Simulation, Race, NoMemory}
 
 -- the text that a line gives for a refusal (profile)
 abbrev pub text_of : Refusal → List ℕ
@@ -24,6 +24,7 @@ text_of LogFull = codes "log full"
 text_of BadReceipt = codes "bad receipt"
 text_of BeyondGoal = codes "beyond the goal"
 text_of NoJob = codes "no job"
+text_of BadRequest = codes "bad request"
 text_of Simulation = codes "simulation"
 text_of Race = codes "race"
 text_of NoMemory = codes "no memory"

@@ -5,9 +5,10 @@ ghost use Rattle.vp_vpi.specs.Observers.{Observer};
 ghost use Rattle.vp_vpi.specs.SessionStates.{SessionState, has_room, with_handles};
 ghost use Rattle.vp_answer.specs.declared.query.Query.TheVariants as query;
 ghost use Rattle.vp_answer.specs.declared.reply.Reply.TheVariants as reply;
-ghost use Rattle.vp_answer.specs.Answers.{refused, respond, value_in};
+ghost use Rattle.vp_answer.specs.Answers.{refused, respond, steering, value_in};
 ghost use Rattle.vp_answer.specs.Given.{IsGiven, plain};
 
+use crate::goal::GoalChange;
 use crate::query::{Query, ValueFormat};
 use crate::reply::{Refusal, Reply};
 use std::alloc::AllocError;
@@ -22,8 +23,8 @@ pub struct Answer {
     pub reply: Reply,
     /// The same, for the log's entry.
     pub entry_reply: Reply,
-    /// The goal that it sets, if it sets one, in time units.
-    pub goal: Option<u64>,
+    /// What it does to the goal.
+    pub goal: GoalChange,
     /// The object that it gives a value, and the value, if it puts one.
     pub put: Option<(ObjectId, Bits)>,
 }
@@ -36,7 +37,7 @@ fn plain(reply: Reply) -> Result<Answer, AllocError>
     Ok(Answer {
         reply,
         entry_reply,
-        goal: None,
+        goal: GoalChange::Stays,
         put: None,
     })
 }
@@ -86,7 +87,7 @@ fn handle<E: Observe>(
         Ok(handle) => Ok(Answer {
             reply: Reply::Handle(handle),
             entry_reply: Reply::Handle(handle),
-            goal: None,
+            goal: GoalChange::Stays,
             put: None,
         }),
         Err(error) => refusal(error),
@@ -200,7 +201,7 @@ fn put<E: Observe>(
         Ok(put) => Ok(Answer {
             reply: Reply::Done,
             entry_reply: Reply::Done,
-            goal: None,
+            goal: GoalChange::Stays,
             put: Some(put),
         }),
         Err(error) => refusal(error),
@@ -228,7 +229,7 @@ fn free(session: &mut Session, handle: u32) -> Result<Answer, AllocError>
         Ok(()) => Ok(Answer {
             reply: Reply::Done,
             entry_reply: Reply::Done,
-            goal: None,
+            goal: GoalChange::Stays,
             put: None,
         }),
         Err(error) => refusal(error),
@@ -250,7 +251,7 @@ fn watch<E: Observe>(
         Ok(callback) => Ok(Answer {
             reply: Reply::Callback(callback),
             entry_reply: Reply::Callback(callback),
-            goal: None,
+            goal: GoalChange::Stays,
             put: None,
         }),
         Err(error) => refusal(error),
@@ -267,7 +268,7 @@ fn unwatch(session: &mut Session, callback: u32) -> Result<Answer, AllocError>
         Ok(()) => Ok(Answer {
             reply: Reply::Done,
             entry_reply: Reply::Done,
-            goal: None,
+            goal: GoalChange::Stays,
             put: None,
         }),
         Err(error) => refusal(error),
@@ -312,25 +313,24 @@ fn race<E: Observe>(session: &Session, observation: &E, number: u64) -> Result<A
     }
 }
 
-/// Lets the design run until a time, if it may be run.
-fn let_run<E: Observe>(observation: &E, until: u64) -> Answer
+/// Changes the goal, if the user may let the design run.
+fn steer<E: Observe>(observation: &E, change: GoalChange) -> Answer
     requires { E.is_sound observation.now }
     ensures { (session_state : SessionState)
-        → let observation = E.observer observation.now in
-        IsGiven (respond observation session_state (query.Run until)) session_state result }
+        → IsGiven (steering (E.observer observation.now) session_state change) session_state result }
 {
     if observation.may_run() {
         Answer {
             reply: Reply::Done,
             entry_reply: Reply::Done,
-            goal: Some(until),
+            goal: change,
             put: None,
         }
     } else {
         Answer {
             reply: Reply::RunDenied,
             entry_reply: Reply::RunDenied,
-            goal: None,
+            goal: GoalChange::Stays,
             put: None,
         }
     }
@@ -348,7 +348,7 @@ fn time<E: Observe>(observation: &E) -> Answer
     Answer {
         reply: Reply::Time { time, finished },
         entry_reply: Reply::Time { time, finished },
-        goal: None,
+        goal: GoalChange::Stays,
         put: None,
     }
 }
@@ -378,7 +378,8 @@ pub fn respond<E: Observe>(
         Query::Poll => poll(session),
         Query::Races { from } => races(session, observation, *from),
         Query::Race { number } => race(session, observation, *number),
-        Query::Run { until } => Ok(let_run(observation, *until)),
+        Query::Run { until } => Ok(steer(observation, GoalChange::RisesTo(*until))),
+        Query::Stop => Ok(steer(observation, GoalChange::Ends)),
         Query::Time => Ok(time(observation)),
     }
 }

@@ -1,7 +1,8 @@
-// Queries, changes of grants and replies are compared by their contents.
+// Queries, an operator's orders and replies are compared by their contents.
 use crate::query::Query;
 use crate::reply::Reply;
-use crate::request::GrantChange;
+use crate::request::{EndOrder, GrantChange, HaltOrder};
+use crate::status::{ServerStatus, UserSessions, WorldStatus};
 use vp_text::Same;
 
 impl Same for Reply {
@@ -30,9 +31,51 @@ impl Same for Reply {
                     finished: second_finished,
                 },
             ) => time == second && finished == second_finished,
+            (Reply::Status(first), Reply::Status(second)) => first.is_same(second),
             (Reply::Error(first), Reply::Error(second)) => first == second,
             _ => false,
         }
+    }
+}
+
+impl Same for UserSessions {
+    fn is_same(&self, other: &UserSessions) -> bool {
+        self.user.is_same(&other.user) && self.sessions == other.sessions
+    }
+}
+
+impl Same for WorldStatus {
+    fn is_same(&self, other: &WorldStatus) -> bool {
+        self.time == other.time
+            && self.running == other.running
+            && self.entries == other.entries
+            && self.held == other.held
+            && self.bytes == other.bytes
+            && self.sessions.is_same(&other.sessions)
+            && self.jobs == other.jobs
+            && self.races == other.races
+    }
+}
+
+impl Same for ServerStatus {
+    fn is_same(&self, other: &ServerStatus) -> bool {
+        self.world.is_same(&other.world)
+            && self.connections == other.connections
+            && self.denials == other.denials
+            && self.wrong_tokens == other.wrong_tokens
+            && self.version.is_same(&other.version)
+    }
+}
+
+impl Same for EndOrder {
+    fn is_same(&self, other: &EndOrder) -> bool {
+        self.token.is_same(&other.token) && self.user.is_same(&other.user)
+    }
+}
+
+impl Same for HaltOrder {
+    fn is_same(&self, other: &HaltOrder) -> bool {
+        self.token.is_same(&other.token)
     }
 }
 
@@ -106,7 +149,7 @@ impl Same for Query {
             (Query::Races { from }, Query::Races { from: second }) => from == second,
             (Query::Race { number }, Query::Race { number: second }) => number == second,
             (Query::Run { until }, Query::Run { until: second }) => until == second,
-            (Query::Time, Query::Time) => true,
+            (Query::Stop, Query::Stop) | (Query::Time, Query::Time) => true,
             _ => false,
         }
     }

@@ -3,7 +3,7 @@ ghost use Rattle.std.specs.Prelude.{◌≡◌, ◌<◌, length, map, IfSome, Som
 ghost use Rattle.std.specs.List.{list_all};
 ghost use Rattle.vp_notify.specs.Registry.{is_unwatchable};
 ghost use Rattle.vp_notify.specs.Renumbered.{number_now, rises};
-ghost use Rattle.vp_answer.specs.OpenSessions.{index_of, is_session_within, moved_session, notified_session, retired_for};
+ghost use Rattle.vp_answer.specs.OpenSessions.{index_of, is_session_within, moved_session, notified_session, retired_for, sessions_of, without_user};
 
 use crate::answering::{Answer, respond};
 use crate::query::Query;
@@ -132,6 +132,23 @@ pub fn session_index(sessions: &[OpenSession], id: SessionId) -> Option<usize>
     ensures within { IfSome result (λ index. index < length sessions.now) }
 {
     sessions.iter().position(|session| session.id.is_same(id))
+}
+
+/// How many of these sessions are a user's.
+pub fn session_count(sessions: &[OpenSession], user: UserId) -> usize
+    ensures { result ≡ sessions_of user.0 sessions.now }
+{
+    sessions
+        .iter()
+        .filter(|session| session.id.user.0 == user.0)
+        .count()
+}
+
+/// Takes a user's sessions out of these.
+pub fn end_sessions(sessions: &mut Vec<OpenSession>, user: UserId)
+    ensures { sessions.new.items ≡ without_user user.0 sessions.old.items }
+{
+    sessions.retain(|session| session.id.user.0 != user.0);
 }
 
 /// All objects of these sessions are among so many.

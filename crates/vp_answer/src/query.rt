@@ -80,6 +80,8 @@ pub enum Query {
     Run {
         until: u64,
     },
+    /// To let the design stand still, until somebody asks for a run again.
+    Stop,
     /// The current time, and whether `$finish` was executed.
     Time,
 }
@@ -131,6 +133,7 @@ impl Query {
             Query::Races { from } => Query::Races { from },
             Query::Race { number } => Query::Race { number },
             Query::Run { until } => Query::Run { until },
+            Query::Stop => Query::Stop,
             Query::Time => Query::Time,
         })
     }

@@ -3,6 +3,7 @@ ghost use Rattle.vp_answer.specs.Sizes.{line_bytes, list_bytes, name_bytes, repl
 
 use crate::request::SessionId;
 use crate::sizes::{ITEM_BYTES, list_bytes};
+use crate::status::ServerStatus;
 use std::alloc::AllocError;
 use vp_bits::Bits;
 use vp_notify::Notices;
@@ -31,6 +32,7 @@ pub enum Refusal {
     BadReceipt,
     BeyondGoal,
     NoJob,
+    BadRequest,
     Simulation,
     Race,
     NoMemory,
@@ -63,6 +65,7 @@ impl Refusal {
             Refusal::BadReceipt => "bad receipt",
             Refusal::BeyondGoal => "beyond the goal",
             Refusal::NoJob => "no job",
+            Refusal::BadRequest => "bad request",
             Refusal::Simulation => "simulation",
             Refusal::Race => "race",
             Refusal::NoMemory => "no memory",
@@ -107,6 +110,8 @@ pub enum Reply {
     RunDenied,
     /// The current time, in time units, and whether `$finish` was executed.
     Time { time: u64, finished: bool },
+    /// How the server stands, which no log has.
+    Status(Shared<ServerStatus>),
     /// Another refusal.
     Error(Refusal),
 }
@@ -174,6 +179,7 @@ impl Reply {
                 time: *time,
                 finished: *finished,
             },
+            Reply::Status(status) => Reply::Status(status.try_clone()?),
             Reply::Error(refusal) => Reply::Error(*refusal),
         })
     }

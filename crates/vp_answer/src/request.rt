@@ -50,6 +50,45 @@ impl GrantChange {
     }
 }
 
+/// What an operator orders: the open sessions of a user end.
+#[derive(Drop)]
+pub struct EndOrder {
+    /// The operator's token.
+    pub token: Text,
+    /// The user's name.
+    pub user: Text,
+}
+
+impl EndOrder {
+    /// The same order once more. Takes memory.
+    pub fn try_clone(&self, alloc: Global) -> Result<EndOrder, AllocError>
+        ensures { IfOk result (λ order. order ≡ self.now) }
+    {
+        Ok(EndOrder {
+            token: Text::copy(alloc, self.token.as_str())?,
+            user: Text::copy(alloc, self.user.as_str())?,
+        })
+    }
+}
+
+/// What an operator orders: the design stands still, until somebody asks for a run again.
+#[derive(Drop)]
+pub struct HaltOrder {
+    /// The operator's token.
+    pub token: Text,
+}
+
+impl HaltOrder {
+    /// The same order once more. Takes memory.
+    pub fn try_clone(&self, alloc: Global) -> Result<HaltOrder, AllocError>
+        ensures { IfOk result (λ order. order ≡ self.now) }
+    {
+        Ok(HaltOrder {
+            token: Text::copy(alloc, self.token.as_str())?,
+        })
+    }
+}
+
 /// What the holder of a session asks.
 #[derive(Drop)]
 pub enum Call {
@@ -77,6 +116,14 @@ pub enum Request {
     Open { user: Text, token: Text },
     /// To change a grant, which an operator asks and no session does.
     Grant(GrantChange),
+    /// To end a user's sessions, which an operator asks.
+    End(EndOrder),
+    /// To let the design stand still, which an operator asks.
+    Halt(HaltOrder),
+    /// How the server stands, which an operator asks by his token. A script has no server.
+    Status { token: Text },
+    /// To end the server, which an operator asks by his token.
+    Shutdown { token: Text },
     /// What the holder of a session asks.
     Call(Call),
 }

@@ -1,6 +1,6 @@
 -- What goes to two users of a log, and what one of them is shown by it. Each row is an equation that holds by computation.
-use Rattle.std.proofs.Common.{◌≡◌, ℕ, Bool, true, false, List, [], ◌∷◌, ◌++◌, map, Some, None, refl}
-use Rattle.std.specs.Prelude.{codes}
+use Rattle.std.proofs.Common.{◌≡◌, ℕ, Bool, true, false, List, [], ◌∷◌, ◌++◌, map, Option, Some, None, refl}
+use Rattle.std.specs.Prelude.{codes, option_and_then}
 use Rattle.std.specs.List.{filter_map}
 use Rattle.std.specs.Fmt.{digits}
 use Rattle.std.specs.Str.{chars, is_utf8}
@@ -30,6 +30,10 @@ use Rattle.vp_world.specs.declared.event.Event.TheVariants as event
 use Rattle.vp_world.specs.Entries.{Entry}
 use Rattle.vp_world.specs.Worlds.{Opening}
 use Rattle.vp_replay.specs.Known.{known_index}
+use Rattle.vp_replay.specs.declared.item.GrantItem.{GrantItem}
+use Rattle.vp_replay.specs.declared.item.Item.{Item}
+use Rattle.vp_replay.specs.declared.item.OrderItem.{OrderItem}
+use Rattle.vp_replay.specs.declared.item.OrderItem.TheVariants.{End, Grant}
 use Rattle.vp_replay.specs.declared.item.OwnEvent.TheVariants.{Asks, Opens}
 use Rattle.vp_replay.specs.Parts.{replies_from}
 use Rattle.vp_replay.specs.Parts.{first_part}
@@ -111,10 +115,10 @@ abbrev putting : RightSet
 putting = with_right right.Put (with_right right.List nothing)
 
 abbrev ann : Member
-ann = record { name = codes "ann"; token = codes "t1"; open_set = reading; grants = []; run = false }
+ann = record { name = codes "ann"; token = codes "t1"; open_set = reading; grants = []; run = false; sessions = 64 }
 
 abbrev bob : Member
-bob = record { name = codes "bob"; token = codes "t2"; open_set = putting; grants = (1, putting) ∷ []; run = false }
+bob = record { name = codes "bob"; token = codes "t2"; open_set = putting; grants = (1, putting) ∷ []; run = false; sessions = 64 }
 
 abbrev opening : Opening
 opening = record {
@@ -189,22 +193,30 @@ changes : filter_map (λ i. i.change) (projection opening 0 log).items ≡ chang
 unfolding digits is_utf8 chars encode sizes_in tables_of effect_at
 changes = refl
 
+-- the change of his grants that an order is, if it is one
+abbrev granted_by : OrderItem → Option GrantItem
+granted_by (Grant g) = Some g
+granted_by End = None
+
+abbrev grant_in : Item → Option GrantItem
+grant_in i = option_and_then granted_by i.order
+
 -- the names of a path
 abbrev names : SeenNode → List (List ℕ)
 names node = map (λ s. s.name) node.path
 
 -- her grant shows the reg of the envelope, with its value as it is then, and no value that she could read before
 granted_names :
-    map (λ g. map names g.view.nodes) (filter_map (λ i. i.granted) (projection opening 0 log).items)
+    map (λ g. map names g.view.nodes) (filter_map grant_in (projection opening 0 log).items)
     ≡ ((codes "top" ∷ []) ∷ (codes "top" ∷ codes "a" ∷ []) ∷ (codes "top" ∷ codes "k" ∷ []) ∷ []) ∷ []
 unfolding digits is_utf8 chars encode sizes_in tables_of effect_at
 granted_names = refl
 
-granted_values : map (λ g. g.values) (filter_map (λ i. i.granted) (projection opening 0 log).items) ≡ (None ∷ None ∷ Some (One ∷ []) ∷ []) ∷ []
+granted_values : map (λ g. g.values) (filter_map grant_in (projection opening 0 log).items) ≡ (None ∷ None ∷ Some (One ∷ []) ∷ []) ∷ []
 unfolding digits is_utf8 chars encode sizes_in tables_of effect_at
 granted_values = refl
 
-granted_numbers : map (λ g. g.moved) (filter_map (λ i. i.granted) (projection opening 0 log).items) ≡ (0 ∷ 1 ∷ []) ∷ []
+granted_numbers : map (λ g. g.moved) (filter_map grant_in (projection opening 0 log).items) ≡ (0 ∷ 1 ∷ []) ∷ []
 unfolding digits is_utf8 chars encode sizes_in tables_of effect_at
 granted_numbers = refl
 
@@ -228,7 +240,7 @@ changes_of_bob : filter_map (λ i. i.change) (projection opening 1 log).items �
 unfolding digits is_utf8 chars encode sizes_in tables_of effect_at
 changes_of_bob = refl
 
-grants_of_bob : filter_map (λ i. i.granted) (projection opening 1 log).items ≡ []
+grants_of_bob : filter_map grant_in (projection opening 1 log).items ≡ []
 unfolding digits is_utf8 chars encode sizes_in tables_of effect_at
 grants_of_bob = refl
 
@@ -238,3 +250,42 @@ without_a_trace :
     ≡ projection opening 0 ann_asks
 unfolding digits is_utf8 chars encode sizes_in tables_of effect_at
 without_a_trace = refl
+
+-- ---- the operator ends sessions, and lets the design stand still
+
+abbrev ends : List ℕ → Entry
+ends user = entry (event.End (record { token = codes "op"; user = user })) reply.Done
+
+abbrev halts : Entry
+halts = entry (event.Halt (record { token = codes "op" })) reply.Done
+
+-- of bob's sessions, and of the design, ann is told nothing
+end_of_bob :
+    projection opening 0 (ann_asks ++ entry (event.Open (codes "bob") (codes "t2")) (reply.Opened of_bob) ∷ ends (codes "bob") ∷ halts ∷ [])
+    ≡ projection opening 0 ann_asks
+unfolding digits is_utf8 chars encode sizes_in tables_of effect_at
+end_of_bob = refl
+
+-- the end of her own sessions is an item of hers
+end_of_ann : filter_map (λ i. i.order) (projection opening 0 (ann_asks ++ ends (codes "ann") ∷ [])).items ≡ End ∷ []
+unfolding digits is_utf8 chars encode sizes_in tables_of effect_at
+end_of_ann = refl
+
+abbrev of_ann_again : SessionId
+of_ann_again = record { user = record { 0 = 0 }; opens = 2 }
+
+-- she opens another, whose handles begin anew
+abbrev ann_again : List Entry
+ann_again =
+    ann_asks ++ ends (codes "ann")
+    ∷ entry (event.Open (codes "ann") (codes "t1")) (reply.Opened of_ann_again) ∷ entry (handle of_ann_again (codes "top.a")) (reply.Handle 1) ∷ []
+
+abbrev told_again : List Reply
+told_again = reply.Opened of_ann ∷ reply.Handle 1 ∷ hidden ∷ reply.Opened of_ann_again ∷ reply.Handle 1 ∷ []
+
+replies_again : replies_of 0 ann_again ≡ told_again
+replies_again = refl
+
+part_again : replies_from (first_part (view_of design ann) (projection opening 0 ann_again).values) (projection opening 0 ann_again).items ≡ told_again
+unfolding digits is_utf8 chars encode sizes_in tables_of effect_at
+part_again = refl

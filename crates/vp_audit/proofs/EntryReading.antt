@@ -17,8 +17,9 @@ use Rattle.vp_world.specs.Worlds.{Opening, State}
 use Rattle.vp_replay.specs.Known.{known_also}
 use Rattle.vp_replay.specs.declared.item.GrantItem.{GrantItem}
 use Rattle.vp_replay.specs.declared.item.Item.{Item}
+use Rattle.vp_replay.specs.declared.item.OrderItem.{OrderItem}
 use Rattle.vp_replay.specs.declared.item.OwnEvent.{OwnEvent}
-use Rattle.vp_audit.specs.Projections.{change_seen, granted_of, item_if, known_after, other_flag, other_number, own_of, race_of_event, regrant_of}
+use Rattle.vp_audit.specs.Projections.{change_seen, granted_of, is_end_of, item_if, known_after, order_by, other_flag, other_number, own_of, race_of_event, regrant_of}
 use Rattle.vp_audit.specs.Readings.{Continues, Grants, LogReader, Reads, followed, reading_of}
 use Rattle.vp_audit.proofs.Following.{IsNoGrant, followed_is}
 
@@ -29,6 +30,8 @@ no_grant (happening.Ask asked reply) other = tt
 no_grant (happening.Put asked change) other = tt
 no_grant (happening.Close session) other = tt
 no_grant (happening.Grant change) other = other change refl
+no_grant (happening.End order) other = tt
+no_grant (happening.Halt order) other = tt
 no_grant (happening.Step k) other = tt
 no_grant (happening.StepWithChange k change) other = tt
 no_grant happening.Advance other = tt
@@ -41,17 +44,19 @@ no_regrant u policy (event.Open name token) n = refl
 no_regrant u policy (event.Ask id query) n = refl
 no_regrant u policy (event.Close id) n = refl
 no_regrant u policy (event.Grant change) n = absurd n
+no_regrant u policy (event.End order) n = refl
+no_regrant u policy (event.Halt order) n = refl
 no_regrant u policy (event.Step k) n = refl
 no_regrant u policy event.Advance n = refl
 no_regrant u policy event.TakeJob n = refl
 no_regrant u policy (event.Book finding) n = refl
 
 -- an item, by its parts
-same_items : (own_event own_event' : Option OwnEvent) (granted granted' : Option GrantItem) (change change' : Option Change) (time time' : Option ℕ) (finished finished' : Option Bool) (race race' : Option ShownRace)
-    → own_event ≡ own_event' → granted ≡ granted' → change ≡ change' → time ≡ time' → finished ≡ finished' → race ≡ race'
-    → ◌≡◌ {A = Item} (record { own_event = own_event; granted = granted; change = change; time = time; finished = finished; race = race })
-    (record { own_event = own_event'; granted = granted'; change = change'; time = time'; finished = finished'; race = race' })
-same_items own_event own_event' granted granted' change change' time time' finished finished' race race' a b c d e f = cc
+same_items : (own_event own_event' : Option OwnEvent) (order order' : Option OrderItem) (change change' : Option Change) (time time' : Option ℕ) (finished finished' : Option Bool) (race race' : Option ShownRace)
+    → own_event ≡ own_event' → order ≡ order' → change ≡ change' → time ≡ time' → finished ≡ finished' → race ≡ race'
+    → ◌≡◌ {A = Item} (record { own_event = own_event; order = order; change = change; time = time; finished = finished; race = race })
+    (record { own_event = own_event'; order = order'; change = change'; time = time'; finished = finished'; race = race' })
+same_items own_event own_event' order order' change change' time time' finished finished' race race' a b c d e f = cc
 
 -- what goes to him of a change of his grants by the event, and the reading after the entry
 pub record Leaves (u : ℕ) (opening : Opening) (s : State) (known : List Bool) (e : Entry) (granted : Option GrantItem) (mid : LogReader) : Type 0 where
@@ -86,13 +91,14 @@ module _ (opening : Opening) (u : ℕ) (s : State) (known : List Bool) (e : Entr
       }
 
   -- what goes to him, by its parts
-  pub reads_by : (own_event : Option OwnEvent) (granted : Option GrantItem) (change : Option Change) (time : Option ℕ) (finished : Option Bool) (race : Option ShownRace) (mid last : LogReader) (item : Option Item)
-      → item ≡ item_if (record { own_event = own_event; granted = granted; change = change; time = time; finished = finished; race = race }) → last ≡ followed mid e
-      → Leaves u opening s known e granted mid → own_event ≡ own_of u e.event e.reply → change ≡ change_seen s.run.design.tree (member_at s.policy.members u) known e.change
+  pub reads_by : (own_event : Option OwnEvent) (is_end : Bool) (granted : Option GrantItem) (order : Option OrderItem) (change : Option Change) (time : Option ℕ) (finished : Option Bool) (race : Option ShownRace) (mid last : LogReader) (item : Option Item)
+      → item ≡ item_if (record { own_event = own_event; order = order; change = change; time = time; finished = finished; race = race }) → last ≡ followed mid e
+      → Leaves u opening s known e granted mid → order ≡ order_by is_end granted → is_end ≡ is_end_of u s.policy e.event → own_event ≡ own_of u e.event e.reply → change ≡ change_seen s.run.design.tree (member_at s.policy.members u) known e.change
       → time ≡ other_number s.run.time e.time → finished ≡ other_flag s.run.finished e.finished → race ≡ race_of_event s.run.design.tree (member_at s.policy.members u) e.event
       → Reads u opening s known e (Ok item) last
-  reads_by own_event granted change time finished race mid last item is follows leaves its_own its_change its_time its_finished its_race =
+  reads_by own_event is_end granted order change time finished race mid last item is follows leaves its_order its_end its_own its_change its_time its_finished its_race =
       record {
-        item = is ∙ ap item_if (same_items own_event _ granted _ change _ time _ finished _ race _ its_own leaves.item its_change its_time its_finished its_race);
+        item = is ∙ ap item_if (same_items own_event _ order _ change _ time _ finished _ race _ its_own
+            (its_order ∙ ap (λ (b : Bool). order_by b granted) its_end ∙ ap (order_by (is_end_of u s.policy e.event)) leaves.item) its_change its_time its_finished its_race);
         reading = follows ∙ leaves.reading;
       }

@@ -18,7 +18,7 @@ use Rattle.vp_answer.specs.declared.query.Query.{Query}
 use Rattle.vp_world.specs.declared.event.Event.{Event}
 use Rattle.vp_world.specs.declared.event.Event.TheVariants as event
 use Rattle.vp_world.specs.declared.error.WorldError.TheVariants as error
-use Rattle.vp_world.specs.History.{after, asked_at, change_of, changed, changed_by, closed_at, entry_of, opened_by, outcome_of_put, refusal_of, refusal_of_grantee, refusal_of_log, response_of, segments_of_put, state_asked, stepped}
+use Rattle.vp_world.specs.History.{after, asked_at, change_of, changed, changed_by, closed_at, ended_for, entry_of, opened_by, outcome_of_put, refusal_of, refusal_of_grantee, refusal_of_log, response_of, segments_of_put, state_asked, stepped}
 use Rattle.vp_world.specs.Worlds.{Opening, State}
 use Rattle.vp_answer.specs.OpenSessions.{OpenSessionState, index_of}
 use Rattle.vp_audit.specs.Readings.{LogReader, book_after, followed, reading_of}
@@ -64,6 +64,11 @@ closes : (s : State) (index : Option ℕ) → Stays s (closed_at s index) None s
 closes s None = nothing s
 closes s (Some index) = record { design = refl; values = refl; policy = refl; booked = refl }
 
+-- an end of sessions
+ends : (s : State) (user : Option ℕ) → Stays s (option_map_or (ended_for s) user s) None s.book
+ends s None = nothing s
+ends s (Some u) = record { design = refl; values = refl; policy = refl; booked = refl }
+
 -- an event that is no change of grants
 abbrev pub IsNoGrant : Event → Type 0
 IsNoGrant (event.Grant change) = ⊥
@@ -75,6 +80,8 @@ stays opening s (event.Open name token) n = opens s (login_of s.policy.members n
 stays opening s (event.Ask id query) n = asks_at s (index_of s.sessions id) query
 stays opening s (event.Close id) n = closes s (index_of s.sessions id)
 stays opening s (event.Grant change) n = absurd n
+stays opening s (event.End order) n = ends s (user_of s.policy.members order.user)
+stays opening s (event.Halt order) n = record { design = refl; values = refl; policy = refl; booked = refl }
 stays opening s (event.Step k) n = does s s refl refl refl (with_step s.segments k) (sim.step s.run k) (step_leaves s.run k) (step_changes s.run k)
 stays opening s event.Advance n = does s s refl refl refl (with_anew s.segments) (sim.advance s.run) (advance_leaves s.run) (advance_changes s.run)
 stays opening s event.TakeJob n = record { design = refl; values = refl; policy = refl; booked = refl }

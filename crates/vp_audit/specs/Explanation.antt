@@ -14,6 +14,8 @@ use Rattle.vp_replay.specs.Seen.{names_seen}
 use Rattle.vp_replay.specs.declared.explaining.Explained.{Explained}
 use Rattle.vp_replay.specs.declared.item.GrantItem.{GrantItem}
 use Rattle.vp_replay.specs.declared.item.Item.{Item}
+use Rattle.vp_replay.specs.declared.item.OrderItem.{OrderItem}
+use Rattle.vp_replay.specs.declared.item.OrderItem.TheVariants.{End, Grant}
 use Rattle.vp_replay.specs.declared.item.OwnEvent.{OwnEvent}
 use Rattle.vp_replay.specs.declared.item.Projection.{Projection}
 use Rattle.vp_replay.specs.Explained.{explained_from}
@@ -55,6 +57,11 @@ explained_after (Some own_event) told = drop 1 told
 abbrev pub grant_line : (number : ℕ) → GrantItem → List ℕ
 grant_line number g = item_line number (codes "grant" ∷ decimal g.envelope ∷ access_text g.access ∷ [])
 
+-- the line for what an operator ordered of him: the change of his grants, or that his sessions ended
+abbrev pub order_line : (number : ℕ) → OrderItem → List ℕ
+order_line number (Grant g) = grant_line number g
+order_line number End = item_line number (codes "ended" ∷ [])
+
 -- the line for a change: the full name of the object, and its value in binary digits, greatest bit first
 abbrev pub change_line : View → (number : ℕ) → Change → List ℕ
 change_line v number c = item_line number (dotted (names_seen v c.object.0) ∷ map digit_of (reverse c.value) ∷ [])
@@ -72,10 +79,10 @@ finish_line number false = []
 abbrev pub race_line : (number : ℕ) → ShownRace → List ℕ
 race_line number race = item_line number (codes "race" ∷ race.name ∷ [])
 
--- the lines for what came with the item of a number: a change of his grants, a change, the time, $finish, a race
+-- the lines for what came with the item of a number: what an operator ordered of him, a change, the time, $finish, a race
 abbrev pub item_lines : View → (number : ℕ) → Item → List ℕ
 item_lines v number i =
-    option_map_or (grant_line number) i.granted []
+    option_map_or (order_line number) i.order []
     ++ (option_map_or (change_line v number) i.change []
     ++ (option_map_or (time_line number) i.time []
     ++ (option_map_or (finish_line number) i.finished []
@@ -84,15 +91,16 @@ item_lines v number i =
 -- ---- all of it
 
 -- what he sees after an item
-abbrev pub view_after : View → Option GrantItem → View
+abbrev pub view_after : View → Option OrderItem → View
 view_after v None = v
-view_after v (Some g) = g.view
+view_after v (Some End) = v
+view_after v (Some (Grant g)) = g.view
 
 -- the lines for items, in turn, from one of a number on, with what he was shown by his own events
 abbrev pub explanation_from : (number : ℕ) → View → List Item → List Explained → List ℕ
 explanation_from number v [] told = []
 explanation_from number v (i ∷ items) told =
-    own_line i.own_event told ++ (item_lines v number i ++ explanation_from (number + 1) (view_after v i.granted) items (explained_after i.own_event told))
+    own_line i.own_event told ++ (item_lines v number i ++ explanation_from (number + 1) (view_after v i.order) items (explained_after i.own_event told))
 
 -- what he was shown and what came to him, from the first item on
 abbrev pub explanation_of : View → List Item → List Explained → List ℕ

@@ -28,6 +28,8 @@ use Rattle.vp_replay.specs.Known.{known_also, known_index}
 pub use Rattle.vp_replay.specs.declared.item.Projection.{Projection}
 use Rattle.vp_replay.specs.declared.item.GrantItem.{GrantItem}
 use Rattle.vp_replay.specs.declared.item.Item.{Item}
+use Rattle.vp_replay.specs.declared.item.OrderItem.{OrderItem}
+use Rattle.vp_replay.specs.declared.item.OrderItem.TheVariants.{End, Grant}
 use Rattle.vp_replay.specs.declared.item.OwnEvent.{OwnEvent}
 use Rattle.vp_replay.specs.declared.item.OwnEvent.TheVariants.{Asks, Closes, Opens}
 
@@ -98,15 +100,26 @@ own_of u (event.Open name token) r = opened_by_reply u r
 own_of u (event.Ask id query) r = own_if u id (Asks id query)
 own_of u (event.Close id) r = own_if u id (Closes id)
 own_of u (event.Grant change) r = None
+own_of u (event.End order) r = None
+own_of u (event.Halt order) r = None
 own_of u (event.Step k) r = None
 own_of u event.Advance r = None
 own_of u event.TakeJob r = None
 own_of u (event.Book finding) r = None
 
+-- a name is that of the user of a number
+abbrev pub is_name_of : (user : ℕ) → PolicyState → (name : List ℕ) → Bool
+is_name_of u policy name = option_map_or (λ v. v == u) (user_of policy.members name) false
+
 -- a change of grants, if it is one of a user's
 abbrev pub regrant_of : (user : ℕ) → PolicyState → Event → Option GrantChange
-regrant_of u policy (event.Grant change) = if option_map_or (λ v. v == u) (user_of policy.members change.user) false then Some change else None
+regrant_of u policy (event.Grant change) = if is_name_of u policy change.user then Some change else None
 regrant_of u policy e = None
+
+-- an event ends a user's open sessions, by an operator's order
+abbrev pub is_end_of : (user : ℕ) → PolicyState → Event → Bool
+is_end_of u policy (event.End order) = is_name_of u policy order.user
+is_end_of u policy e = false
 
 -- what a user knows after an event
 abbrev pub known_after : (user : ℕ) → (before following : State) → (known : List Bool) → Event → List Bool
@@ -124,6 +137,15 @@ granted_of u s t known now change = record {
   values = values_but (read_marks s.run.design.tree (member_at s.policy.members u) known) t.run (member_at t.policy.members u) now;
   races = races_seen t.run.design.tree (member_at t.policy.members u) t.book;
 }
+
+-- what goes to him of what an operator orders: that his sessions ended, or a change of his grants
+abbrev pub order_by : (is_end : Bool) → Option GrantItem → Option OrderItem
+order_by true granted = Some End
+order_by false granted = option_map Grant granted
+
+-- the same of an event
+abbrev pub order_of : (user : ℕ) → (before following : State) → (known now : List Bool) → Event → Option OrderItem
+order_of u s t known now e = order_by (is_end_of u s.policy e) (option_map (granted_of u s t known now) (regrant_of u s.policy e))
 
 -- a number, and whether something is so, if they are others than before
 abbrev pub other_number : (before following : ℕ) → Option ℕ
@@ -145,7 +167,7 @@ race_of_event tree u e = None
 abbrev pub item_of : (user : ℕ) → (before following : State) → (known now : List Bool) → Entry → Item
 item_of u s t known now e = record {
   own_event = own_of u e.event e.reply;
-  granted = option_map (granted_of u s t known now) (regrant_of u s.policy e.event);
+  order = order_of u s t known now e.event;
   change = change_seen s.run.design.tree (member_at s.policy.members u) known e.change;
   time = other_number s.run.time e.time;
   finished = other_flag s.run.finished e.finished;
@@ -155,7 +177,7 @@ item_of u s t known now e = record {
 -- an item, if it is any
 abbrev pub item_if : Item → Option Item
 item_if i =
-    if is_none i.own_event && is_none i.granted && is_none i.change && is_none i.time && is_none i.finished && is_none i.race then None else Some i
+    if is_none i.own_event && is_none i.order && is_none i.change && is_none i.time && is_none i.finished && is_none i.race then None else Some i
 
 -- what of entries goes to a user, from a state on: an entry of which nothing goes to him leaves no trace
 abbrev pub items_from : Opening → (user : ℕ) → State → (known : List Bool) → List Entry → List Item

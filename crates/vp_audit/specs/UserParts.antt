@@ -1,12 +1,12 @@
 -- A user's part of a world, event by event (profile).
-use Rattle.std.specs.Prelude.{◌≡◌, ℕ, ◌==◌, ◌++◌, Bool, List, [], ◌∷◌, filter, map, slice_get, slice_index, Option, Some, option_and_then, option_map}
+use Rattle.std.specs.Prelude.{◌≡◌, ℕ, ◌++◌, Bool, List, [], ◌∷◌, filter, map, slice_get, slice_index, Option, Some, option_and_then, option_map}
 use Rattle.std.specs.Option.{option_map_or}
 use Rattle.vp_bits.specs.declared.bit.Bit.{Bit}
 use Rattle.vp_policy.specs.Users.{Member, member_at}
 use Rattle.vp_policy.specs.View.{known_view, view_of}
 use Rattle.vp_sim.specs.States as sim
 use Rattle.vp_vpi.specs.Renumbered.{moved_session_state}
-use Rattle.vp_answer.specs.OpenSessions.{OpenSessionState}
+use Rattle.vp_answer.specs.OpenSessions.{OpenSessionState, is_of}
 use Rattle.vp_world.specs.Entries.{Entry}
 use Rattle.vp_world.specs.History.{after, state_after}
 use Rattle.vp_world.specs.Races.{races_seen}
@@ -17,10 +17,6 @@ use Rattle.vp_replay.specs.Parts.{Part, first_part, part_after, reply_of}
 use Rattle.vp_audit.specs.Projections.{item_if, item_of, known_after, known_at_first, own_reply, projection, value_seen}
 
 -- ---- what a user's part of a world is
-
--- a session is one of a user
-abbrev pub is_session_of : (user : ℕ) → OpenSessionState → Bool
-is_session_of u t = t.id.user.0 == u
 
 -- a session of a part, whose objects have the numbers that they have in the world
 abbrev pub session_in_world : (known : List Bool) → OpenSessionState → OpenSessionState
@@ -35,7 +31,7 @@ KnowsValues run u known values = (k : ℕ) → (bits : List Bit) → value_seen 
 pub record IsUserPart (u : ℕ) (s : State) (known : List Bool) (p : Part) : Type 0 where
   pub view : p.view ≡ known_view s.run.design (member_at s.policy.members u) known
   pub opens : p.opens ≡ slice_index s.opens u
-  pub sessions : map (session_in_world known) p.sessions ≡ filter (is_session_of u) s.sessions
+  pub sessions : map (session_in_world known) p.sessions ≡ filter (is_of u) s.sessions
   pub values : KnowsValues s.run (member_at s.policy.members u) known p.values
   pub time : p.time ≡ s.run.time
   pub finished : p.finished ≡ s.run.finished

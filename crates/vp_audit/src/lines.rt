@@ -3,13 +3,15 @@ ghost use Rattle.std.specs.Prelude.{◌≡◌, ◌++◌, [], ◌∷◌, codes, d
 ghost use Rattle.std.specs.Option.{option_map_or};
 ghost use Rattle.vp_replay.specs.Outline.{words_text};
 ghost use Rattle.vp_wire.specs.Lines.{line_of};
-ghost use Rattle.vp_audit.specs.Explanation.{change_line, explanation_of, finish_line, grant_line, item_lines, origin_words, own_line, race_line, time_line, explained_after, explained_line, view_after};
+ghost use Rattle.vp_audit.specs.Explanation.{change_line, explanation_of, finish_line, grant_line, item_lines, order_line, origin_words, own_line, race_line, time_line, explained_after, explained_line, view_after};
 
 use std::alloc::{AllocError, Global};
 use vp_answer::Reply;
 use vp_expr::Change;
 use vp_policy::View;
-use vp_replay::{Explained, GrantItem, Item, Projection, full_name, push_access, push_word};
+use vp_replay::{
+    Explained, GrantItem, Item, OrderItem, Projection, full_name, push_access, push_word,
+};
 use vp_text::Text;
 use vp_vpi::ShownRace;
 use vp_wire::reply_text;
@@ -62,6 +64,22 @@ fn push_grant(
     write!(text, "{number} grant {envelope}")?;
     push_access(alloc, text, granted.access.rights())?;
     text.push('\n')
+}
+
+/// Adds the line for what an operator ordered of the user.
+fn push_order(
+    alloc: Global,
+    text: &mut String,
+    number: u64,
+    order: &OrderItem,
+) -> Result<(), AllocError>
+    ensures { OnOk result (string_bytes text.new
+        ≡ string_bytes text.old ++ order_line number order.now) }
+{
+    match order {
+        OrderItem::Grant(granted) => push_grant(alloc, text, number, granted.value()),
+        OrderItem::End => write!(text, "{number} ended\n"),
+    }
 }
 
 /// Adds the line for a change.
@@ -118,8 +136,8 @@ fn push_item(
     ensures { OnOk result (string_bytes text.new
         ≡ string_bytes text.old ++ item_lines view.now number item.now) }
 {
-    if let Some(granted) = &item.granted {
-        push_grant(alloc, text, number, granted.value())?;
+    if let Some(order) = &item.order {
+        push_order(alloc, text, number, order)?;
     }
     if let Some(change) = &item.change {
         push_change(alloc, text, view, number, change)?;
@@ -162,11 +180,11 @@ fn push_own<'a>(
 
 /// What the user sees after an item.
 fn view_after<'a>(view: &'a View, item: &'a Item) -> &'a View
-    ensures { result.now ≡ view_after view.now item.now.granted }
+    ensures { result.now ≡ view_after view.now item.now.order }
 {
-    match &item.granted {
-        Some(granted) => &granted.value().view,
-        None => view,
+    match &item.order {
+        Some(OrderItem::Grant(granted)) => &granted.value().view,
+        Some(OrderItem::End) | None => view,
     }
 }
 

@@ -7,14 +7,14 @@ ghost use Rattle.vp_policy.specs.Regrants.{regranted};
 ghost use Rattle.vp_policy.specs.SeenObjects.{numbers_from};
 ghost use Rattle.vp_policy.specs.Users.{Member, member_at};
 ghost use Rattle.vp_sim.specs.States as sim;
-ghost use Rattle.vp_world.specs.Entries.{change_in};
+ghost use Rattle.vp_world.specs.Entries.{change_in, event_in};
 ghost use Rattle.vp_world.specs.declared.event.Event.{Event};
 ghost use Rattle.vp_world.specs.declared.event.Event.TheVariants as event;
 ghost use Rattle.vp_world.specs.History.{after, refusal_of};
 ghost use Rattle.vp_world.specs.Worlds.{Opening, State, start};
 ghost use Rattle.vp_replay.specs.declared.error.AuditError.TheVariants.{NoMemory};
 ghost use Rattle.vp_replay.specs.Known.{known_also};
-ghost use Rattle.vp_audit.specs.Projections.{change_seen, granted_of, is_followed, is_read, item_if, known_at_first, moved_numbers, other_flag, other_number, own_of, race_of_event, read_marks, values_but, values_seen};
+ghost use Rattle.vp_audit.specs.Projections.{change_seen, granted_of, is_end_of, is_followed, is_read, item_if, known_at_first, moved_numbers, order_by, other_flag, other_number, own_of, race_of_event, read_marks, values_but, values_seen};
 ghost use Rattle.vp_audit.specs.Readings.{Continues, Grants, Reads, either_marked, followed, reading_of, value_but, value_of};
 
 use std::alloc::{AllocError, Global};
@@ -26,7 +26,7 @@ use vp_expr::{Change, Checked, Values};
 use vp_policy::{Policy, PolicyError, UserId};
 use vp_pragma::Right;
 use vp_race::BookedFinding;
-use vp_replay::{AuditError, GrantItem, Item, OwnEvent};
+use vp_replay::{AuditError, GrantItem, Item, OrderItem, OwnEvent};
 use vp_text::{Sequence, Shared};
 use vp_vpi::ShownRace;
 use vp_world::{Entry, LoggedEvent, is_race_shown, seen_race, seen_races};
@@ -187,12 +187,23 @@ fn item_if(item: Item) -> Option<Item>
     ensures { result ≡ item_if item }
 {
     let is_empty = item.own_event.is_none()
-        && item.granted.is_none()
+        && item.order.is_none()
         && item.change.is_none()
         && item.time.is_none()
         && item.finished.is_none()
         && item.race.is_none();
     if is_empty { None } else { Some(item) }
+}
+
+/// What goes to a user of what an operator orders: that his sessions ended, or a change of his grants.
+fn order_by(is_end: bool, granted: Option<Shared<GrantItem>>) -> Option<OrderItem>
+    ensures { result ≡ order_by is_end granted }
+{
+    match granted {
+        _ if is_end => Some(OrderItem::End),
+        Some(granted) => Some(OrderItem::Grant(granted)),
+        None => None,
+    }
 }
 
 /// What happened changed this.
@@ -494,6 +505,19 @@ impl<'a> LogReader<'a> {
         Ok(Some(Shared::new(self.alloc, granted)?))
     }
 
+    /// What happened ended his open sessions, by an operator's order.
+    fn is_end(&self, happening: &LoggedEvent) -> bool
+        ensures { result ≡ is_end_of self.now.user self.now.policy (event_in happening.now) }
+    {
+        let LoggedEvent::End { order } = happening else {
+            return false;
+        };
+        match self.policy.user(order.user.as_str()) {
+            Some(user) => user.0 == self.user.0,
+            None => false,
+        }
+    }
+
     /// The values, the book and the time are as after an entry. Takes memory for a race.
     fn follow(&mut self, entry: &Entry) -> Result<(), AllocError>
         ensures { OnOk result (self.new ≡ followed self.old entry.now) }
@@ -522,6 +546,7 @@ impl<'a> LogReader<'a> {
         let race = self.race(entry)?;
         let time = other_number(self.time, entry.time);
         let finished = other_flag(self.finished, entry.finished);
+        let is_end = self.is_end(&entry.happening);
         let granted = match &entry.happening {
             LoggedEvent::Grant { change } => self.grant(change)?,
             _ => None,
@@ -529,7 +554,7 @@ impl<'a> LogReader<'a> {
         self.follow(entry)?;
         Ok(item_if(Item {
             own_event,
-            granted,
+            order: order_by(is_end, granted),
             change,
             time,
             finished,

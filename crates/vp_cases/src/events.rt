@@ -68,6 +68,9 @@ fn requested(alloc: Global, session: Option<SessionId>, line: &str) -> Option<Ev
     match request(alloc, line.as_bytes()).ok()? {
         Request::Open { user, token } => Some(Event::Open { user, token }),
         Request::Grant(change) => Some(Event::Grant(change)),
+        Request::End(order) => Some(Event::End(order)),
+        Request::Halt(order) => Some(Event::Halt(order)),
+        Request::Status { .. } | Request::Shutdown { .. } => None,
         Request::Call(Call::Query(query)) => Some(Event::Ask {
             session: session?,
             query,

@@ -5,4 +5,4 @@ mod parser;
 mod words;
 
 pub use parser::command;
-pub use words::{Command, Misuse};
+pub use words::{Command, Misuse, VERSION};

@@ -2,7 +2,7 @@ ghost use Rattle.std.specs.Prelude.{◌≤◌, IfOk, IfSome};
 ghost use Rattle.vp_cli.specs.Numbers.{HasNumbersInRange};
 
 use crate::words;
-use crate::words::Misuse;
+use crate::words::{Misuse, VERSION};
 use clap::builder::ValueParser;
 use clap::error::ErrorKind;
 use clap::{Arg, ArgAction, ArgMatches, Error};
@@ -62,7 +62,7 @@ With --explain, standard error shows what the user was told and what came to him
 const SERVE_HELP: &str =
     "It listens on 127.0.0.1 and prints `listening N`, N the port. Each connection is a session of its own: lines in, lines out, as \
 `run` reads and answers them, but that all share one simulation, which runs beside them. With --sessions M it ends when M \
-connections have ended, and prints `closed L`, L the number of entries of the log. docs/OPERATING.md tells how to run it for others.";
+connections have ended, and without it at the operator's `shutdown`; then it prints `closed L`, L the number of entries of the log. docs/OPERATING.md tells how to run it for others.";
 
 /// A word by its name.
 fn word<'a>(alloc: Global, name: &'static str, help: &'static str, required: bool) -> Arg<'a> {
@@ -163,6 +163,14 @@ fn keep_word<'a>(alloc: Global) -> Arg<'a> {
         .action(ArgAction::SetTrue)
 }
 
+/// Whether a server reports what happens.
+fn log_word<'a>(alloc: Global) -> Arg<'a> {
+    Arg::new(alloc, "log")
+        .long("log")
+        .help("Report openings, closings, wrong tokens and the operator's orders on standard error")
+        .action(ArgAction::SetTrue)
+}
+
 /// The words of `serve`.
 fn serve_words<'a>(alloc: Global) -> Result<clap::Command<'a>, AllocError> {
     clap::Command::new(alloc, "serve")
@@ -185,13 +193,14 @@ fn serve_words<'a>(alloc: Global) -> Result<clap::Command<'a>, AllocError> {
                 .default_value("0")
                 .help("After how many connections it ends; 0: it does not end"),
         )?
-        .arg(keep_word(alloc))
+        .arg(keep_word(alloc))?
+        .arg(log_word(alloc))
 }
 
 /// The program's words.
 fn grammar<'a>(alloc: Global) -> Result<clap::Command<'a>, AllocError> {
     clap::Command::new(alloc, "vp_served")
-        .version("0.1.0")
+        .version(VERSION)
         .about(ABOUT)
         .after_help(BUNDLE_HELP)
         .subcommand(run_words(alloc)?)?
@@ -242,6 +251,7 @@ fn served<'a>(serve: &ArgMatches<'a>) -> Option<words::Command<'a>>
         workers,
         sessions,
         keep: serve.get_flag("keep"),
+        log: serve.get_flag("log"),
     })
 }
 

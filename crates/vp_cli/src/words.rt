@@ -1,5 +1,8 @@
 use vp_text::Text;
 
+/// The program's version.
+pub const VERSION: &str = "0.1.0";
+
 /// What the program's words ask.
 #[derive(Drop)]
 pub enum Command<'a> {
@@ -41,6 +44,8 @@ pub enum Command<'a> {
         sessions: u32,
         /// It keeps its log, which is full at last.
         keep: bool,
+        /// It reports what happens.
+        log: bool,
     },
     /// To run the bundle of standard input.
     Bundle,

@@ -87,7 +87,10 @@ fn push_grant(
 
 /// A key of a user.
 fn is_key(key: &str) -> bool {
-    matches!(key, "name" | "token" | "open" | "run" | "grants")
+    matches!(
+        key,
+        "name" | "token" | "open" | "run" | "sessions" | "grants"
+    )
 }
 
 /// Adds a key that is not read, as a string of JSON.

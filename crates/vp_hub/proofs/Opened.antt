@@ -21,7 +21,7 @@ use Rattle.vp_sim.specs.States as sim
 use Rattle.vp_world.specs.declared.event.Event.{Event}
 use Rattle.vp_world.specs.declared.event.Event.TheVariants as event
 use Rattle.vp_world.specs.Entries.{Entry}
-use Rattle.vp_world.specs.History.{IsLegal, after, answer, asked_at, closed_at, granted_to, next_session, opened_by, outcome_of_put, raised, refusal_of, refusal_of_open, response_of, segments_of_put, state_after, state_asked, stepped}
+use Rattle.vp_world.specs.History.{IsLegal, after, answer, asked_at, closed_at, ended_for, goal_after, granted_to, next_session, opened_by, outcome_of_put, refusal_of, refusal_of_open, response_of, segments_of_put, state_after, state_asked, stepped}
 use Rattle.vp_world.specs.Worlds.{Opening, State, start}
 use Rattle.vp_hub.specs.Calls.{opened_in, sessions_opened}
 
@@ -83,7 +83,7 @@ answered_counts : (s : State) (opened : List SessionId) (index : ℕ) (session :
 answered_counts s opened index None r counts = counts
 answered_counts s opened index (Some session) r counts =
     let given : Response = response_of s session.session_state r in
-    stepped_counts (record s { sessions = slice_set s.sessions index (record session { session_state = given.session_state }); goal = raised s.goal given.goal }) opened
+    stepped_counts (record s { sessions = slice_set s.sessions index (record session { session_state = given.session_state }); goal = goal_after s.goal given.goal }) opened
     (segments_of_put s.segments given.put) (outcome_of_put s.run given.put) (record { users = counts.users; within = counts.within })
 
 -- a query
@@ -100,6 +100,11 @@ closed_counts s opened (Some index) counts = record { users = counts.users; with
 granted_counts : (s : State) (opened : List SessionId) (change : GrantChange) (user : Option ℕ) → Counts s opened → Counts (option_map_or (granted_to s change) user s) opened
 granted_counts s opened change None counts = counts
 granted_counts s opened change (Some user) counts = same_counts s (granted_to s change user) opened counts refl (length-set s.policy.members user _)
+
+-- an end of a user's sessions
+ended_counts : (s : State) (opened : List SessionId) (user : Option ℕ) → Counts s opened → Counts (option_map_or (ended_for s) user s) opened
+ended_counts s opened None counts = counts
+ended_counts s opened (Some user) counts = record { users = counts.users; within = counts.within }
 
 -- an opening, by the user whom it logs in
 opened_counts : (opening : Opening) (full : Bool) (s : State) (opened : List SessionId) (user token : List ℕ) (found : Option ℕ) → login_of s.policy.members user token ≡ found → refusal_of_open opening full s found ≡ None → Counts s opened
@@ -120,6 +125,8 @@ after_counts opening full s opened (event.Open user token) accepted counts = ope
 after_counts opening full s opened (event.Ask id r) accepted counts = subst (Counts _) (sym (append-nil opened)) (asked_counts s opened (index_of s.sessions id) r counts)
 after_counts opening full s opened (event.Close id) accepted counts = subst (Counts _) (sym (append-nil opened)) (closed_counts s opened (index_of s.sessions id) counts)
 after_counts opening full s opened (event.Grant change) accepted counts = subst (Counts _) (sym (append-nil opened)) (granted_counts s opened change (user_of s.policy.members change.user) counts)
+after_counts opening full s opened (event.End order) accepted counts = subst (Counts _) (sym (append-nil opened)) (ended_counts s opened (user_of s.policy.members order.user) counts)
+after_counts opening full s opened (event.Halt order) accepted counts = subst (Counts _) (sym (append-nil opened)) (record { users = counts.users; within = counts.within })
 after_counts opening full s opened (event.Step k) accepted counts = subst (Counts _) (sym (append-nil opened)) (stepped_counts s opened (with_step s.segments k) (sim.step s.run k) counts)
 after_counts opening full s opened event.Advance accepted counts = subst (Counts _) (sym (append-nil opened)) (stepped_counts s opened (with_anew s.segments) (sim.advance s.run) counts)
 after_counts opening full s opened event.TakeJob accepted counts = subst (Counts _) (sym (append-nil opened)) (record { users = counts.users; within = counts.within })

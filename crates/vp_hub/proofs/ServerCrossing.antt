@@ -22,7 +22,7 @@ module _ (L : RattleType) (o : opens.Ghosts L.Denot) (l : ledger.Ghosts L.Denot)
             hub_sync L o l,
             (
               search (s, sendable, crosses) depth 60 fits 5000,
-              (search (sendable, crosses) depth 60 fits 5000, (search (sendable, crosses) depth 60 fits 5000, (search (sendable, crosses) depth 60 fits 5000, tt))),
+              (search (sendable, crosses) depth 60 fits 5000, (search (sendable, crosses) depth 60 fits 5000, (search (sendable, crosses) depth 60 fits 5000, (search (sendable, crosses) depth 60 fits 5000, (search (sendable, crosses) depth 60 fits 5000, (search (sendable, crosses) depth 60 fits 5000, tt)))))),
             ),
           ),
         ),

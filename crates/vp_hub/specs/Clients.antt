@@ -3,6 +3,7 @@ use Rattle.std.specs.Prelude.{◌≡◌, ◌⊎◌, ℕ, List, Option, Some, Non
 use Rattle.vp_answer.specs.declared.reply.Refusal.{Refusal}
 use Rattle.vp_answer.specs.declared.reply.Reply.{Reply}
 use Rattle.vp_answer.specs.declared.reply.Reply.TheVariants as reply
+use Rattle.vp_answer.specs.declared.status.ServerStatus.{ServerStatus}
 use Rattle.vp_answer.specs.declared.request.Call.{Call}
 use Rattle.vp_answer.specs.declared.request.Request.{Request}
 use Rattle.vp_answer.specs.declared.request.Request.TheVariants as request
@@ -28,9 +29,13 @@ IsOpening opening None user token answer after =
     ((p : Passed) × (after ≡ Some p) × (answer ≡ reply.Opened p.session) × IsOpened opening user token p)
     ⊎ IsRefused None answer after
 
--- a grant is changed, or that is refused; a session stays as it was
-abbrev pub IsGranted : (before : Option Passed) → Reply → (after : Option Passed) → Type 0
-IsGranted before answer after = ((after ≡ before) × (answer ≡ reply.Done)) ⊎ IsRefused before answer after
+-- an operator's order is done, or refused; a session stays as it was
+abbrev pub IsOrdered : (before : Option Passed) → Reply → (after : Option Passed) → Type 0
+IsOrdered before answer after = ((after ≡ before) × (answer ≡ reply.Done)) ⊎ IsRefused before answer after
+
+-- it is reported how the server stands, or that is refused; a session stays as it was
+abbrev pub IsStatus : (before : Option Passed) → Reply → (after : Option Passed) → Type 0
+IsStatus before answer after = ((after ≡ before) × (s : ServerStatus) × (answer ≡ reply.Status s)) ⊎ IsRefused before answer after
 
 -- a call of a session is answered as the hub answers it; without a session it is refused
 abbrev pub IsAnsweredTo : Opening → (before : Option Passed) → Call → Reply → (after : Option Passed) → Type 0
@@ -42,5 +47,9 @@ IsAnsweredTo opening (Some p) call answer after =
 -- a client is answered: what becomes of its session
 abbrev pub Answers : Opening → (before : Option Passed) → Request → Reply → (after : Option Passed) → Type 0
 Answers opening before (request.Open user token) answer after = IsOpening opening before user token answer after
-Answers opening before (request.Grant change) answer after = IsGranted before answer after
+Answers opening before (request.Grant change) answer after = IsOrdered before answer after
+Answers opening before (request.End order) answer after = IsOrdered before answer after
+Answers opening before (request.Halt order) answer after = IsOrdered before answer after
+Answers opening before (request.Status token) answer after = IsStatus before answer after
+Answers opening before (request.Shutdown token) answer after = IsOrdered before answer after
 Answers opening before (request.Call call) answer after = IsAnsweredTo opening before call answer after

@@ -1,5 +1,5 @@
 -- What stands behind the lock of a hub.
-use Rattle.std.specs.Prelude.{◌≡◌, ◌≢◌, ◌<◌, ℕ, ◌+◌, ◌-◌, ◌++◌, ◌∷◌, ◌||◌, [], All, AllPairs, Bool, IfErr, IfOk, OnErr, OnOk, if◌then◌else◌, length, min, nat_le, List, Option, None, Some, option_map, Result, slice_get, sum_by}
+use Rattle.std.specs.Prelude.{◌≡◌, ◌≢◌, ◌<◌, ℕ, ◌+◌, ◌-◌, ◌++◌, ◌∷◌, ◌||◌, [], All, AllPairs, Bool, IfErr, IfOk, OnErr, OnOk, if◌then◌else◌, is_some, length, min, nat_le, List, Option, None, Some, option_map, Result, slice_get, sum_by}
 use Rattle.std.specs.List.{remove}
 use mathlib.Core.List.{IsPrefix}
 use Rattle.vp_answer.specs.declared.reply.Reply.{Reply}
@@ -10,8 +10,10 @@ use Rattle.vp_world.specs.declared.event.Event.{Event}
 use Rattle.vp_world.specs.declared.event.Event.TheVariants as event
 use Rattle.vp_world.specs.Entries.{Entry}
 use Rattle.vp_world.specs.declared.error.WorldError.TheVariants as world_error
-use Rattle.vp_world.specs.History.{answered_by, held_bytes, most_entries, refused_by, with_entry}
-use Rattle.vp_world.specs.Worlds.{WorldLog, Opening}
+use Rattle.vp_world.specs.History.{answered_by, held_bytes, most_entries, refused_by, state_after, with_entry}
+use Rattle.vp_answer.specs.OpenSessions.{index_of}
+use Rattle.vp_policy.specs.Regrants.{is_operator}
+use Rattle.vp_world.specs.Worlds.{WorldLog, Opening, State}
 use Rattle.vp_world.specs.declared.archive.CountingArchive.{CountingArchive}
 use Rattle.vp_hub.specs.declared.archive.LogArchive.{LogArchive}
 use Rattle.vp_hub.specs.declared.archive.LogArchive.TheVariants as kinds
@@ -125,6 +127,18 @@ refusal_of d e = option_map hub_error.World (refused_by d.world e)
 -- out of memory
 abbrev pub out_of_memory : HubError
 out_of_memory = hub_error.World world_error.NoMemory
+
+-- another token than the operator's
+abbrev pub bad_operator : HubError
+bad_operator = hub_error.World world_error.BadOperator
+
+-- a token is that of the operator of a world
+abbrev pub is_operators : WorldLog → (token : List ℕ) → Bool
+is_operators w token = let s : State = state_after w.opening w.log in is_operator s.policy token
+
+-- a session is open in a world
+abbrev pub is_open_in : WorldLog → SessionId → Bool
+is_open_in w id = let s : State = state_after w.opening w.log in is_some (index_of s.sessions id)
 
 -- a call of a pass is made: the world accepts its event, the desk has the entry, and the pass has seen it
 pub record IsMade (d : Desked) (p : Passed) (c : Call) (next : Desked) (q : Passed) : Type 0 where

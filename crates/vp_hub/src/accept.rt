@@ -1,6 +1,7 @@
 use crate::background::rest;
 use crate::connection::serve_connection;
 use crate::opens::NamesOpening;
+use crate::report::Report;
 use crate::service::Service;
 use std::net::{TcpListener, TcpStream};
 use std::sync::Wait;
@@ -19,7 +20,7 @@ fn accept<
     E,
     L: NamesOpening + Send + Sync,
     R: Threads + Wait + Clock + Sync,
-    G: Gate + Sync,
+    G: Gate + Report + Sync,
 >(rt: &'s R, scope: &'s Scope<'s, E>, service: &'s Service<'a, L, G>, stream: TcpStream) {
     if service.connections.load(Ordering::SeqCst) >= CONNECTION_LIMIT {
         return;
@@ -33,17 +34,21 @@ fn accept<
     }
 }
 
-/// Accepts connections, each in a thread of its own, until there were as many as the server is to have. One that can't be accepted counts.
+/// Accepts connections, each in a thread of its own, until there were as many as the server is to have, or it is to end. One that can't be accepted
+/// counts.
 pub(crate) fn accept_all<
     's,
     'a,
     E,
     L: NamesOpening + Send + Sync,
     R: Threads + Wait + Clock + Sync,
-    G: Gate + Sync,
+    G: Gate + Report + Sync,
 >(rt: &'s R, scope: &'s Scope<'s, E>, service: &'s Service<'a, L, G>, listener: &TcpListener) {
     let mut accepted = 0u32;
     for stream in listener.incoming() {
+        if service.ending.load(Ordering::SeqCst) {
+            break;
+        }
         match stream {
             Ok(stream) => accept(rt, scope, service, stream),
             Err(_) => rest(rt),

@@ -1,4 +1,4 @@
-ghost use Rattle.std.specs.Prelude.{◌≡◌, ◌≢◌, ◌<◌, ◌^◌, ◌+◌, ◌++◌, ◌∷◌, [], All, drop, IfErr, IfOk, OnErr, OnOk, None, Some, length, true};
+ghost use Rattle.std.specs.Prelude.{◌≡◌, ◌≢◌, ◌⊎◌, ◌<◌, ◌^◌, false, ◌+◌, ◌++◌, ◌∷◌, [], All, drop, IfErr, IfOk, OnErr, OnOk, None, Some, length, true};
 ghost use Rattle.std.specs.Prelude.{IfNone, IfSome, slice_get};
 ghost use Rattle.std.specs.Arc.{arc_value};
 ghost use mathlib.Core.List.{IsPrefix};
@@ -11,7 +11,8 @@ ghost use Rattle.vp_world.specs.History.{IsLegal, answered_by, most_entries, ref
 ghost use Rattle.vp_hub.specs.declared.error.HubError.TheVariants.{Mismatch, Receipt};
 ghost use Rattle.vp_hub.specs.Calls.{is_of_session, session_entries};
 ghost use Rattle.vp_hub.specs.Closing.{HaveAll, IsClosed};
-ghost use Rattle.vp_hub.specs.Desks.{Calls, IsOther, WithPass, WithPassBack, refusal_of, out_of_memory, handed_out, is_due, with_call, with_event};
+ghost use Rattle.vp_world.specs.Status.{status_of};
+ghost use Rattle.vp_hub.specs.Desks.{Calls, IsOther, WithPass, WithPassBack, bad_operator, handed_out, is_due, is_open_in, is_operators, out_of_memory, refusal_of, with_call, with_event};
 
 use crate::archive::LogArchive;
 use crate::close::Closed;
@@ -23,7 +24,7 @@ use std::alloc::{AllocError, Global};
 use std::marker::Model;
 use std::sync::Arc;
 use std::sync::ledger::{Blank, Book, Share};
-use vp_answer::{Call, Reply, SessionId};
+use vp_answer::{Call, Reply, SessionId, WorldStatus};
 use vp_history::{Front, History, Shows};
 use vp_race::{Finding, Segment, SimError};
 use vp_text::{Shared, Text};
@@ -295,6 +296,37 @@ impl<L: NamesOpening> Desk<L> {
             LogArchive::Keeping => self.world.hand_out(&mut KeepingArchive),
             LogArchive::Counting(archive) => self.world.hand_out(archive),
         };
+    }
+
+    /// A token is the operator's; else the refusal (1403: 1310).
+    pub fn check_operator(&self, token: &str) -> Result<(), HubError>
+        ensures operator { OnOk result (is_operators self.now.world token.now ≡ true) }
+        ensures other { OnErr result (is_operators self.now.world token.now ≡ false) }
+        ensures refused { IfErr result (λ e. e ≡ bad_operator) }
+    {
+        if self.world.is_operator(token) {
+            Ok(())
+        } else {
+            Err(HubError::World(WorldError::BadOperator))
+        }
+    }
+
+    /// How the world stands, which its operator may know. Refused to another token (1403: 1310), and when out of memory (1403: 1307).
+    pub fn status(&self, token: &str) -> Result<WorldStatus, HubError>
+        ensures status { IfOk result (λ status. status ≡ status_of self.now.world) }
+        ensures operator { OnOk result (is_operators self.now.world token.now ≡ true) }
+        ensures refused { IfErr result (λ e. ((e ≡ bad_operator)
+            × (is_operators self.now.world token.now ≡ false)) ⊎ (e ≡ out_of_memory)) }
+    {
+        self.check_operator(token)?;
+        Ok(self.world.status()?)
+    }
+
+    /// A session is open.
+    pub fn is_open(&self, session: SessionId) -> bool
+        ensures { result ≡ is_open_in self.now.world session }
+    {
+        self.world.is_open(session)
     }
 
     /// The name of the process that goes round in a time slot with as many steps as it takes, as the world has it.

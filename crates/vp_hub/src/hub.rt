@@ -16,7 +16,7 @@ use std::collections::VecDeque;
 use std::hint::spin_loop;
 use std::sync::atomic::{AtomicUsize, Ordering};
 use std::sync::{Arc, Mutex, MutexGuard, Wait};
-use vp_answer::{Call, GrantChange, Reply};
+use vp_answer::{Call, EndOrder, GrantChange, HaltOrder, Reply, SessionId, WorldStatus};
 use vp_race::{Finding, Gate, Segment, search};
 use vp_text::Text;
 use vp_world::{Event, WorldError};
@@ -167,6 +167,41 @@ impl<L: NamesOpening> Hub<L> {
         let answer = desk.event(Event::Grant(change))?;
         desk.hand_out();
         Ok(answer)
+    }
+
+    /// Ends a user's open sessions; else the world's refusal (1403: 1310, 1311, 1304, 1307).
+    pub fn end<R: Wait>(&self, rt: &R, order: EndOrder) -> Result<Reply, HubError>
+        ensures { IfOk result (λ a. a ≡ replies.Done) }
+    {
+        let mut desk = self.desk(rt);
+        let answer = desk.event(Event::End(order))?;
+        desk.hand_out();
+        Ok(answer)
+    }
+
+    /// Lets the simulation stand still, until somebody asks for a run again; else the world's refusal (1403: 1310, 1304, 1307).
+    pub fn halt<R: Wait>(&self, rt: &R, order: HaltOrder) -> Result<Reply, HubError>
+        ensures { IfOk result (λ a. a ≡ replies.Done) }
+    {
+        let mut desk = self.desk(rt);
+        let answer = desk.event(Event::Halt(order))?;
+        desk.hand_out();
+        Ok(answer)
+    }
+
+    /// How the world stands, which its operator may know; else what `Desk::status` is refused by.
+    pub fn status<R: Wait>(&self, rt: &R, token: &str) -> Result<WorldStatus, HubError> {
+        self.desk(rt).status(token)
+    }
+
+    /// A token is the operator's; else the refusal (1403: 1310).
+    pub fn check_operator<R: Wait>(&self, rt: &R, token: &str) -> Result<(), HubError> {
+        self.desk(rt).check_operator(token)
+    }
+
+    /// A session is open.
+    pub(crate) fn is_open<R: Wait>(&self, rt: &R, session: SessionId) -> bool {
+        self.desk(rt).is_open(session)
     }
 
     /// Lets at most so many events of the simulation happen. The lock is held for up to 64 of them, and given up after the event during

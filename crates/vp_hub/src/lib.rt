@@ -21,6 +21,7 @@ mod server;
 mod server_error;
 mod service;
 mod settings;
+mod talk;
 
 pub use archive::LogArchive;
 pub use close::Closed;
@@ -29,7 +30,7 @@ pub use error::HubError;
 pub use hub::{Hub, Ran, Worked};
 pub use opens::NamesOpening;
 pub use pass::{HandedBack, Pass};
-pub use report::Report;
+pub use report::{Report, ServerEvent};
 pub use server::serve;
 pub use server_error::ServerError;
 pub use settings::Settings;

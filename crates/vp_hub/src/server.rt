@@ -117,8 +117,8 @@ fn serve_world<
 }
 
 /// Serves a world in which nothing has happened to whoever connects to a listener: one thread for each connection, one that lets the
-/// simulation run, and workers that search for races. It ends after as many connections as the settings say, and gives what is left of
-/// the world, with its log. Refused where the simulation's thread or a worker's can't be started (1606), or where a pass was
+/// simulation run, and workers that search for races. It ends after as many connections as the settings say, or when its operator
+/// ends it, and gives what is left of the world, with its log. Refused where the simulation's thread or a worker's can't be started (1606), or where a pass was
 /// not handed back (1402).
 pub fn serve<R, G>(
     rt: &R,

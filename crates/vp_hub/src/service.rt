@@ -2,7 +2,7 @@ use crate::hub::Hub;
 use crate::opens::NamesOpening;
 use crate::settings::Settings;
 use std::alloc::Global;
-use std::sync::atomic::{AtomicBool, AtomicUsize};
+use std::sync::atomic::{AtomicBool, AtomicU64, AtomicUsize};
 use std::thread::Parker;
 
 /// What the threads of a server share.
@@ -17,8 +17,14 @@ pub(crate) struct Service<'a, L: NamesOpening, G> {
     pub(crate) connections: AtomicUsize,
     /// The simulation's thread rests on it while nothing is left to do.
     pub(crate) simulation: Parker,
-    /// The simulation and the workers are to end.
+    /// The simulation and the workers are to end, and each connection after what it was last asked.
     pub(crate) ending: AtomicBool,
+    /// So often the operator has ended a user's sessions.
+    pub(crate) ends: AtomicU64,
+    /// So many requests were denied.
+    pub(crate) denials: AtomicU64,
+    /// So many tokens were wrong.
+    pub(crate) wrong_tokens: AtomicU64,
 }
 
 impl<'a, L: NamesOpening, G> Service<'a, L, G> {
@@ -37,6 +43,9 @@ impl<'a, L: NamesOpening, G> Service<'a, L, G> {
             connections: AtomicUsize::new(0),
             simulation: Parker::new(),
             ending: AtomicBool::new(false),
+            ends: AtomicU64::new(0),
+            denials: AtomicU64::new(0),
+            wrong_tokens: AtomicU64::new(0),
         }
     }
 }

@@ -24,6 +24,8 @@ pub fn event_of(alloc: Global, happening: &LoggedEvent) -> Result<Option<Event>,
         },
         LoggedEvent::Close { session } => Event::Close { session: *session },
         LoggedEvent::Grant { change } => Event::Grant((**change).try_clone(alloc)?),
+        LoggedEvent::End { order } => Event::End((**order).try_clone(alloc)?),
+        LoggedEvent::Halt { order } => Event::Halt((**order).try_clone(alloc)?),
         LoggedEvent::Step { k } | LoggedEvent::StepWithChange { k, .. } => Event::Step(*k),
         LoggedEvent::Advance => Event::Advance,
         LoggedEvent::TakeJob { .. } => Event::TakeJob,
@@ -42,6 +44,8 @@ fn reply_of(happening: &LoggedEvent) -> Result<Reply, AllocError>
         LoggedEvent::Put { .. }
         | LoggedEvent::Close { .. }
         | LoggedEvent::Grant { .. }
+        | LoggedEvent::End { .. }
+        | LoggedEvent::Halt { .. }
         | LoggedEvent::Step { .. }
         | LoggedEvent::StepWithChange { .. }
         | LoggedEvent::Advance

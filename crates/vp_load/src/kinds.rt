@@ -10,6 +10,8 @@ pub enum Kind {
     Put,
     Close,
     Grant,
+    End,
+    Halt,
     Step,
     Advance,
     TakeJob,
@@ -17,12 +19,14 @@ pub enum Kind {
 }
 
 /// Each kind.
-pub const KINDS: [Kind; 9] = [
+pub const KINDS: [Kind; 11] = [
     Kind::Open,
     Kind::Ask,
     Kind::Put,
     Kind::Close,
     Kind::Grant,
+    Kind::End,
+    Kind::Halt,
     Kind::Step,
     Kind::Advance,
     Kind::TakeJob,
@@ -48,6 +52,8 @@ impl fmt::Display for Kind {
             Kind::Put => "put",
             Kind::Close => "close",
             Kind::Grant => "grant",
+            Kind::End => "end",
+            Kind::Halt => "stop",
             Kind::Step => "step",
             Kind::Advance => "advance",
             Kind::TakeJob => "job",
@@ -64,6 +70,8 @@ fn kind_of(happening: &LoggedEvent) -> Kind {
         LoggedEvent::Put { .. } => Kind::Put,
         LoggedEvent::Close { .. } => Kind::Close,
         LoggedEvent::Grant { .. } => Kind::Grant,
+        LoggedEvent::End { .. } => Kind::End,
+        LoggedEvent::Halt { .. } => Kind::Halt,
         LoggedEvent::Step { .. } | LoggedEvent::StepWithChange { .. } => Kind::Step,
         LoggedEvent::Advance => Kind::Advance,
         LoggedEvent::TakeJob { .. } => Kind::TakeJob,

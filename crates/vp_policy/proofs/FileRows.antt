@@ -23,7 +23,7 @@ reading_and_putting = record { list = true; read = true; watch = false; put = tr
 
 -- a user of a name, with the token T and these grants
 abbrev user : List ℕ → List (ℕ × RightSet) → Member
-user name grants = member name (codes "T") nothing grants false
+user name grants = member name (codes "T") nothing grants false 64
 
 -- Ann alone, with these grants
 abbrev ann : List (ℕ × RightSet) → List Member
@@ -46,7 +46,7 @@ granting grants = codes "{\"users\":[{\"name\":\"ann\",\"token\":\"T\",\"grants\
 -- each right that is named, and list beside them
 whole :
     told (codes "{\"users\":[{\"name\":\"ann\",\"token\":\"t-1\",\"open\":\"read\",\"run\":true}]}")
-    ≡ Ok (file (member (codes "ann") (codes "t-1") reading [] true ∷ []))
+    ≡ Ok (file (member (codes "ann") (codes "t-1") reading [] true 64 ∷ []))
 unfolding serde_json_on_literals is_utf8 chars
 whole = refl
 
@@ -66,6 +66,27 @@ no_such_right = refl
 run_of_a_text : told (codes "{\"users\":[{\"name\":\"ann\",\"token\":\"T\",\"run\":\"true\"}]}") ≡ Err BadPolicy
 unfolding serde_json_on_literals is_utf8 chars
 run_of_a_text = refl
+
+-- so many sessions at once
+three_sessions :
+    told (codes "{\"users\":[{\"name\":\"ann\",\"token\":\"T\",\"sessions\":3}]}")
+    ≡ Ok (file (member (codes "ann") (codes "T") nothing [] false 3 ∷ []))
+unfolding serde_json_on_literals is_utf8 chars
+three_sessions = refl
+
+no_session :
+    told (codes "{\"users\":[{\"name\":\"ann\",\"token\":\"T\",\"sessions\":0}]}")
+    ≡ Ok (file (member (codes "ann") (codes "T") nothing [] false 0 ∷ []))
+unfolding serde_json_on_literals is_utf8 chars
+no_session = refl
+
+sixty_five_sessions : told (codes "{\"users\":[{\"name\":\"ann\",\"token\":\"T\",\"sessions\":65}]}") ≡ Err BadPolicy
+unfolding serde_json_on_literals is_utf8 chars
+sixty_five_sessions = refl
+
+sessions_of_a_text : told (codes "{\"users\":[{\"name\":\"ann\",\"token\":\"T\",\"sessions\":\"3\"}]}") ≡ Err BadPolicy
+unfolding serde_json_on_literals is_utf8 chars
+sessions_of_a_text = refl
 
 key_too_many : told (codes "{\"users\":[{\"name\":\"ann\",\"token\":\"T\",\"age\":1}]}") ≡ Err BadPolicy
 unfolding serde_json_on_literals is_utf8 chars

@@ -22,7 +22,7 @@ abbrev listing : RightSet
 listing = with_right right.List nothing
 
 abbrev user : List ℕ → RightSet → List (ℕ × RightSet) → Member
-user name open_set grants = record { name = name; token = codes "t1"; open_set = open_set; grants = grants; run = true }
+user name open_set grants = record { name = name; token = codes "t1"; open_set = open_set; grants = grants; run = true; sessions = 64 }
 
 abbrev pub ann : Member
 ann = user (codes "ann") everything []

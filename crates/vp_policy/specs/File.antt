@@ -53,6 +53,16 @@ open_set_of user = option_map_or (λ names. option_and_then opened_by (as_str na
 abbrev pub run_of : Data → Option Bool
 run_of user = option_map_or as_bool (get (codes "run") user) (Some false)
 
+-- so many sessions a user may have open at once, where nothing else is said, and at most (profile)
+abbrev pub most_sessions : ℕ
+most_sessions = 64
+
+-- how many sessions a user may have open at once: the whole number, 64 at most, under sessions; 64 without that key
+abbrev pub sessions_of : Data → Option ℕ
+sessions_of user =
+    option_map_or (λ d. option_and_then (λ n. if nat_le n most_sessions then Some n else None) (option_and_then as_u64 (as_number d)))
+    (get (codes "sessions") user) (Some most_sessions)
+
 -- ---- grants
 
 -- the number of an envelope: the whole number, from 0 to 18,446,744,073,709,551,615, under envelope
@@ -77,15 +87,16 @@ grants_of user = option_map_or (λ grants. option_and_then (each_of grant_of) (a
 -- ---- a user
 
 -- a user of these parts
-abbrev pub member : List ℕ → List ℕ → RightSet → List (ℕ × RightSet) → Bool → Member
-member name token open_set grants run = record { name = name; token = token; open_set = open_set; grants = grants; run = run }
+abbrev pub member : List ℕ → List ℕ → RightSet → List (ℕ × RightSet) → Bool → (sessions : ℕ) → Member
+member name token open_set grants run sessions =
+    record { name = name; token = token; open_set = open_set; grants = grants; run = run; sessions = sessions }
 
--- the user of an object: its keys are name and token, and open, run and grants at most (profile)
+-- the user of an object: its keys are name and token, and open, run, sessions and grants at most (profile)
 abbrev pub user_from : Data → Option Member
 user_from d =
-    if has_keys (codes "name" ∷ codes "token" ∷ []) (codes "open" ∷ codes "run" ∷ codes "grants" ∷ []) d then
-    option_and_then (λ name. option_and_then (λ token. option_and_then (λ open_set. option_and_then (λ grants. option_map (member name token open_set grants)
-    (run_of d)) (grants_of d)) (open_set_of d)) (word_at (codes "token") d)) (word_at (codes "name") d)
+    if has_keys (codes "name" ∷ codes "token" ∷ []) (codes "open" ∷ codes "run" ∷ codes "sessions" ∷ codes "grants" ∷ []) d then
+    option_and_then (λ name. option_and_then (λ token. option_and_then (λ open_set. option_and_then (λ grants. option_and_then (λ run. option_map (member name token open_set grants run)
+    (sessions_of d)) (run_of d)) (grants_of d)) (open_set_of d)) (word_at (codes "token") d)) (word_at (codes "name") d)
     else None
 
 -- ---- a file

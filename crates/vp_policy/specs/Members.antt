@@ -18,4 +18,5 @@ member_of u = record {
   open_set = set_of u.1.open;
   grants = map grant_shown u.1.grants;
   run = u.1.run;
+  sessions = u.1.sessions;
 }

@@ -5,13 +5,15 @@ use Rattle.std.specs.Option.{option_map_or}
 use Rattle.std.specs.Str.{bytes_eq}
 use Rattle.vp_pragma.specs.Rights.{RightSet, nothing, either}
 
--- a user: his name and token, his rights in the open text, his grants by envelope, and whether he may run the design (profile)
+-- a user: his name and token, his rights in the open text, his grants by envelope, whether he may run the design, and how many sessions he may
+-- have open at once (profile)
 pub record Member : Type 0 where
   pub name : List ℕ
   pub token : List ℕ
   pub open_set : RightSet
   pub grants : List (ℕ × RightSet)
   pub run : Bool
+  pub sessions : ℕ
 
 -- what these grants give in an envelope; several for one envelope are joined
 abbrev pub granted_by : List (ℕ × RightSet) → ℕ → RightSet
@@ -33,7 +35,7 @@ has_entry u envelope = has_grant u.grants envelope
 
 -- what stands for a user who is not there
 abbrev pub nobody : Member
-nobody = record { name = []; token = []; open_set = nothing; grants = []; run = false }
+nobody = record { name = []; token = []; open_set = nothing; grants = []; run = false; sessions = 0 }
 
 -- the user of a number
 abbrev pub member_at : List Member → ℕ → Member

@@ -25,6 +25,7 @@ pub fn copied_user(alloc: Global, user: &User) -> Result<User, AllocError>
         token: Text::copy(alloc, user.token.as_str())?,
         open: user.open,
         run: user.run,
+        sessions: user.sessions,
         grants: Sequence::from_vec(Vec::from_slice(alloc, user.grants.as_slice())?),
     })
 }

@@ -36,6 +36,8 @@ pub struct User {
     pub open: Rights,
     /// He may let the design run.
     pub run: bool,
+    /// So many sessions he may have open at once.
+    pub sessions: u64,
     /// His rights in envelopes, in the order of the file.
     pub grants: Sequence<Grant>,
 }
@@ -188,6 +190,26 @@ impl Policy {
         match self.users.get_index(user.0) {
             Some((_, user)) => user.run,
             None => false,
+        }
+    }
+
+    /// How many sessions he may have open at once; none a user who is not there.
+    pub fn session_share(&self, user: UserId) -> u64
+        ensures { result ≡ (member_at self.now.members user.0).sessions }
+    {
+        match self.users.get_index(user.0) {
+            Some((_, user)) => user.sessions,
+            None => 0,
+        }
+    }
+
+    /// His name; the empty text for a user who is not there.
+    pub fn name(&self, user: UserId) -> &str
+        ensures { result.now ≡ (member_at self.now.members user.0).name }
+    {
+        match self.users.get_index(user.0) {
+            Some((name, _)) => name.as_str(),
+            None => "",
         }
     }
 

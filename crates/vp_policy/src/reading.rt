@@ -6,7 +6,7 @@ ghost use Rattle.vp_policy.specs.declared.error.PolicyError.TheVariants.{NoMemor
 ghost use Rattle.vp_text.specs.Refusals.{MayExplain};
 ghost use Rattle.serde_json.specs.View.{items_view, view};
 ghost use Rattle.vp_pragma.specs.Rights.{set_of};
-ghost use Rattle.vp_policy.specs.File.{access_in, each_of, file_in, file_of, grant_of, grants_missing, grants_of, is_for_missing, is_word, is_word_byte, open_set_of, opened_by, operator_of, policy_of, run_of, user_from, users_of, word_at, word_of};
+ghost use Rattle.vp_policy.specs.File.{access_in, each_of, file_in, file_of, grant_of, grants_missing, grants_of, is_for_missing, is_word, is_word_byte, open_set_of, opened_by, operator_of, policy_of, run_of, sessions_of, user_from, users_of, word_at, word_of};
 ghost use Rattle.vp_policy.specs.Members.{grant_shown, member_of};
 ghost use Rattle.vp_policy.specs.Listing.{IsListed};
 ghost use Rattle.vp_policy.specs.PolicyState.{Fits};
@@ -25,6 +25,9 @@ use vp_text::{Sequence, Text};
 
 /// The greatest number of users of a policy file.
 pub const USER_LIMIT: usize = 256;
+
+/// So many sessions a user has open at once at most.
+const SESSION_LIMIT: u64 = 64;
 
 /// The greatest length of a user's name and of a token, in bytes.
 const WORD_LIMIT: usize = 64;
@@ -100,6 +103,19 @@ fn run_flag(user: &Value) -> Option<bool>
     }
 }
 
+/// How many sessions a user may have open at once, by default 64.
+fn session_share(user: &Value) -> Option<u64>
+    ensures { result ≡ sessions_of (view user.now) }
+{
+    let Some(sessions) = user.get("sessions") else {
+        return Some(SESSION_LIMIT);
+    };
+    match sessions.as_u64() {
+        Some(count) if count <= SESSION_LIMIT => Some(count),
+        _ => None,
+    }
+}
+
 /// What a grant gives.
 fn access_in(grant: &Value) -> Option<Rights>
     ensures { option_map set_of result ≡ access_in (view grant.now) }
@@ -155,7 +171,7 @@ fn user_from(alloc: Global, user: &Value) -> Result<(String, User), PolicyError>
     ensures err { IfErr result (λ e. (e ≡ PolicyError.BadPolicy) ⊎ (e ≡ PolicyError.NoMemory)) }
 {
     let required = ["name", "token"];
-    let optional = ["open", "run", "grants"];
+    let optional = ["open", "run", "sessions", "grants"];
     if !has_keys(user, required.as_slice(), optional.as_slice()) {
         return Err(PolicyError::BadPolicy);
     }
@@ -163,6 +179,7 @@ fn user_from(alloc: Global, user: &Value) -> Result<(String, User), PolicyError>
     let token = word(user, "token").ok_or(PolicyError::BadPolicy)?;
     let open = open_set(user).ok_or(PolicyError::BadPolicy)?;
     let run = run_flag(user).ok_or(PolicyError::BadPolicy)?;
+    let sessions = session_share(user).ok_or(PolicyError::BadPolicy)?;
     let grants = grants_of(alloc, user)?;
     let name = String::from_str(alloc, name)?;
     let token = Text::copy(alloc, token)?;
@@ -170,6 +187,7 @@ fn user_from(alloc: Global, user: &Value) -> Result<(String, User), PolicyError>
         token,
         open,
         run,
+        sessions,
         grants,
     };
     Ok((name, user))

@@ -1,5 +1,5 @@
 -- A simulation whose time slots are recorded as segments (profile).
-use Rattle.std.specs.Prelude.{◌≡◌, ℕ, ◌-◌, ◌≤◌, ◌==◌, suc, nat_le, nat_lt, true, false, if◌then◌else◌, List, [], ◌∷◌, ◌++◌, length, replicate, sum_by, Option, Some, None, IfSome}
+use Rattle.std.specs.Prelude.{◌≡◌, ℕ, ◌-◌, ◌≤◌, ◌==◌, suc, count_by, nat_le, nat_lt, true, false, if◌then◌else◌, List, [], ◌∷◌, ◌++◌, length, replicate, sum_by, Option, Some, None, IfSome}
 use Rattle.std.specs.List.{find}
 use Rattle.std.specs.Option.{option_map_or}
 use Rattle.std.specs.Arc.{arc_value}
@@ -80,6 +80,10 @@ kept_of r number = find (λ (run : Run). run.number == number) r.kept
 -- the oldest kept segment that was not handed out
 abbrev pub next_job : Segments → Option Run
 next_job r = find (λ (run : Run). nat_lt r.last_job run.number) r.kept
+
+-- how many kept segments were not handed out
+abbrev pub jobs_waiting : Segments → ℕ
+jobs_waiting r = count_by (λ (run : Run). nat_lt r.last_job run.number) r.kept
 
 -- the segments after a job, which hands out a segment
 abbrev pub with_job : Segments → Run → Segments

@@ -1,4 +1,4 @@
-ghost use Rattle.std.specs.Prelude.{◌≡◌, ◌<◌, ◌≤◌, ◌+◌, ◌-◌, ◌==◌, ◌^◌, ◌∷◌, ◌++◌, [], length, nat_lt, option_copied, suc, IfOk};
+ghost use Rattle.std.specs.Prelude.{◌≡◌, ◌<◌, ◌≤◌, ◌+◌, ◌-◌, ◌==◌, ◌^◌, ◌∷◌, ◌++◌, [], count_by, length, nat_lt, option_copied, suc, IfOk};
 ghost use Rattle.std.specs.List.{find};
 ghost use Rattle.circular_buffer.specs.Buffer.{buffer, keep_last};
 ghost use Rattle.vp_race.specs.Recording.{AreNumbered, choices_limit, choices_of, last_kept, last_within};
@@ -145,5 +145,15 @@ impl KeptSegments {
     {
         let place = number.saturating_sub(self.before());
         self.ring.get(place as usize)
+    }
+
+    /// How many segments are kept after that of a number.
+    pub fn count_after(&self, number: u64) -> usize
+        ensures { result ≡ count_by (λ (run : Run). nat_lt number run.number) self.now.kept }
+    {
+        self.ring
+            .iter()
+            .filter(|segment| segment.number() > number)
+            .count()
     }
 }

@@ -3,7 +3,7 @@ ghost use Rattle.std.specs.Arc.{arc_value};
 ghost use Rattle.vp_sim.specs.States.{refusal_in, Goes, advance, change_in, put, start, step};
 ghost use Rattle.vp_text.specs.Refusals.{Explains};
 ghost use Rattle.vp_sim.specs.declared.error.SimError.TheVariants.{NoMemory};
-ghost use Rattle.vp_race.specs.Recording.{first_segments, kept_of, next_job, with_anew, with_job, with_step};
+ghost use Rattle.vp_race.specs.Recording.{first_segments, jobs_waiting, kept_of, next_job, with_anew, with_job, with_step};
 
 use crate::follow::is_over;
 use crate::kept::KeptSegments;
@@ -155,6 +155,13 @@ impl Recording {
         ensures { option_copied result ≡ next_job self.now.segments }
     {
         self.closed.next(self.last_job)
+    }
+
+    /// How many kept segments were not handed out.
+    pub fn jobs_waiting(&self) -> usize
+        ensures { result ≡ jobs_waiting self.now.segments }
+    {
+        self.closed.count_after(self.last_job)
     }
 
     /// Hands out the oldest kept segment that was not handed out, and reports its number; none where there is none, and nothing changes.

@@ -8,7 +8,7 @@ use Rattle.vp_answer.specs.declared.query.Query.TheVariants as query
 use Rattle.vp_answer.specs.declared.reply.Reply.{Reply}
 use Rattle.vp_answer.specs.declared.reply.Reply.TheVariants as reply
 pub use Rattle.vp_replay.specs.declared.explaining.Explained.{Explained}
-use Rattle.vp_replay.specs.Parts.{Asks, GrantItem, Item, OwnEvent, Part, part_after, reply_of, session_in}
+use Rattle.vp_replay.specs.Parts.{Asks, End, Grant, Item, OrderItem, OwnEvent, Part, part_after, reply_of, session_in}
 
 -- numbers, where the object of a number has this one if no value of it came
 abbrev pub with_number : (came : List (Option (List Bit))) → List ℕ → ℕ → ℕ → List ℕ
@@ -21,8 +21,9 @@ numbers_kept (n ∷ moved) came [] numbers = numbers
 numbers_kept (n ∷ moved) came (b ∷ brought) numbers = numbers_kept moved came brought (with_number came numbers n b)
 
 -- the numbers of the items with which the values of the known objects last came, after the item of a number
-abbrev pub brought_by : (number : ℕ) → (brought : List ℕ) → Option GrantItem → Option Change → List ℕ
-brought_by number brought (Some g) change = numbers_kept g.moved g.values brought (map (λ v. number) g.values)
+abbrev pub brought_by : (number : ℕ) → (brought : List ℕ) → Option OrderItem → Option Change → List ℕ
+brought_by number brought (Some End) change = brought
+brought_by number brought (Some (Grant g)) change = numbers_kept g.moved g.values brought (map (λ v. number) g.values)
 brought_by number brought None (Some c) = slice_set brought c.object.0 number
 brought_by number brought None None = brought
 
@@ -49,4 +50,4 @@ explained number brought p own_event = record {
 abbrev pub explained_from : (number : ℕ) → (brought : List ℕ) → Part → List Item → List Explained
 explained_from number brought p [] = []
 explained_from number brought p (i ∷ items) =
-    cons_option (option_map (explained number brought p) i.own_event) (explained_from (number + 1) (brought_by number brought i.granted i.change) (part_after p i) items)
+    cons_option (option_map (explained number brought p) i.own_event) (explained_from (number + 1) (brought_by number brought i.order i.change) (part_after p i) items)

@@ -22,13 +22,15 @@ pub use Rattle.vp_replay.specs.declared.item.OwnEvent.{OwnEvent}
 pub use Rattle.vp_replay.specs.declared.item.OwnEvent.TheVariants.{Asks, Closes, Opens}
 pub use Rattle.vp_replay.specs.declared.item.GrantItem.{GrantItem}
 pub use Rattle.vp_replay.specs.declared.item.Item.{Item}
+pub use Rattle.vp_replay.specs.declared.item.OrderItem.{OrderItem}
+pub use Rattle.vp_replay.specs.declared.item.OrderItem.TheVariants.{End, Grant}
 pub use Rattle.vp_replay.specs.declared.item.Projection.{Projection}
 
 -- ---- what goes to a user
 
 -- nothing
 abbrev pub empty_item : Item
-empty_item = record { own_event = None; granted = None; change = None; time = None; finished = None; race = None }
+empty_item = record { own_event = None; order = None; change = None; time = None; finished = None; race = None }
 
 -- ---- a part
 
@@ -137,6 +139,11 @@ part_granted p g = record {
   races = g.races;
 }
 
+-- the part after what an operator ordered of him: his grants changed, or his open sessions ended
+abbrev pub part_ordered : Part → OrderItem → Part
+part_ordered p (Grant g) = part_granted p g
+part_ordered p End = record p { sessions = [] }
+
 -- the part after what of an entry with an event of his own, or of nobody's, goes to him
 abbrev pub part_after_entry : Part → Option OwnEvent → Item → Part
 part_after_entry p own_event i = record {
@@ -151,7 +158,7 @@ part_after_entry p own_event i = record {
 
 -- the part after what of an entry goes to him
 abbrev pub part_after : Part → Item → Part
-part_after p i = option_map_or (part_granted p) i.granted (part_after_entry p i.own_event i)
+part_after p i = option_map_or (part_ordered p) i.order (part_after_entry p i.own_event i)
 
 -- the replies to his own events, in turn, from a part on
 abbrev pub replies_from : Part → List Item → List Reply
@@ -170,16 +177,21 @@ takes_own p (Closes id) = is_some (index_of p.sessions id)
 abbrev pub takes_grant : Part → GrantItem → Bool
 takes_grant p g = rises g.moved && list_all (is_session_within (length g.moved)) p.sessions
 
+-- what an operator ordered of him
+abbrev pub takes_order : Part → OrderItem → Bool
+takes_order p (Grant g) = takes_grant p g
+takes_order p End = true
+
 -- one of them, or none; no entry is both
-abbrev pub takes_by : Part → Option OwnEvent → Option GrantItem → Bool
+abbrev pub takes_by : Part → Option OwnEvent → Option OrderItem → Bool
 takes_by p None None = true
 takes_by p (Some own_event) None = takes_own p own_event
-takes_by p None (Some g) = takes_grant p g
-takes_by p (Some own_event) (Some g) = false
+takes_by p None (Some order) = takes_order p order
+takes_by p (Some own_event) (Some order) = false
 
 -- what of an entry goes to him
 abbrev pub takes : Part → Item → Bool
-takes p i = takes_by p i.own_event i.granted
+takes p i = takes_by p i.own_event i.order
 
 -- all items, in turn
 abbrev pub takes_all : Part → List Item → Bool

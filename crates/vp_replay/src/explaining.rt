@@ -1,15 +1,16 @@
 // What a user was shown, and with which item of what goes to him each value came.
-ghost use Rattle.std.specs.Prelude.{◌≡◌, IfErr, IfOk, OnOk, map, option_map, option_and_then, slice_get, true};
+ghost use Rattle.std.specs.Prelude.{◌≡◌, IfErr, IfOk, OnOk, map, option_map, option_and_then, slice_get, slice_set, true};
 ghost use Rattle.vp_replay.specs.Explained.{brought_by, explained, explained_from, is_value, numbers_kept, value_asked, with_number};
 ghost use Rattle.vp_replay.specs.Faults.{MayRefuse, TakesUp};
 ghost use Rattle.vp_replay.specs.Parts.{part_after, takes, takes_all, first_part};
 
 use crate::error::AuditError;
-use crate::item::{GrantItem, Item, OwnEvent, Projection};
+use crate::item::{GrantItem, Item, OrderItem, OwnEvent, Projection};
 use crate::part::Part;
 use std::alloc::{AllocError, Global};
 use vp_answer::Reply;
 use vp_bits::Bits;
+use vp_expr::Change;
 use vp_policy::View;
 use vp_text::Sequence;
 
@@ -79,19 +80,26 @@ fn granted_numbers(
     Ok(numbers)
 }
 
+/// The value of a changed object comes with the item of a number.
+fn bring_change(brought: &mut Vec<u64>, number: u64, change: &Change)
+    ensures { brought.new.items ≡ slice_set brought.old.items change.now.object.0 number }
+{
+    if let Some(index) = brought.get_mut(change.object.0 as usize) {
+        *index = number;
+    }
+}
+
 /// Notes which values come with the item of a number. Takes memory where it is a change of grants.
 fn bring(alloc: Global, brought: &mut Vec<u64>, number: u64, item: &Item) -> Result<(), AllocError>
     ensures { OnOk result (brought.new.items
-        ≡ brought_by number brought.old.items item.now.granted item.now.change) }
+        ≡ brought_by number brought.old.items item.now.order item.now.change) }
 {
-    if let Some(granted) = &item.granted {
-        *brought = granted_numbers(alloc, number, granted.value(), brought)?;
-        return Ok(());
-    }
-    if let Some(change) = &item.change {
-        if let Some(index) = brought.get_mut(change.object.0 as usize) {
-            *index = number;
+    match (&item.order, &item.change) {
+        (Some(OrderItem::Grant(granted)), _) => {
+            *brought = granted_numbers(alloc, number, granted.value(), brought)?;
         }
+        (None, Some(change)) => bring_change(brought, number, change),
+        _ => {}
     }
     Ok(())
 }
@@ -120,7 +128,7 @@ fn explain_item<'a>(
         ≡ option_map (explained number brought.old.items part.old) item.now.own_event) }
     ensures after { OnOk result (part.new ≡ part_after part.old item.now) }
     ensures brought { OnOk result (brought.new.items
-        ≡ brought_by number brought.old.items item.now.granted item.now.change) }
+        ≡ brought_by number brought.old.items item.now.order item.now.change) }
     ensures accepted { OnOk result (takes part.old item.now ≡ true) }
     ensures refused { IfErr result (MayRefuse (takes part.old item.now)) }
 {

@@ -34,13 +34,22 @@ pub struct GrantItem {
     pub races: Sequence<Shared<ShownRace>>,
 }
 
+/// What an operator ordered of a user.
+#[derive(Drop)]
+pub enum OrderItem {
+    /// His grants changed.
+    Grant(Shared<GrantItem>),
+    /// His open sessions ended.
+    End,
+}
+
 /// What of an entry of the log goes to a user.
 #[derive(Drop)]
 pub struct Item {
     /// His own event.
     pub own_event: Option<OwnEvent>,
-    /// A change of his grants.
-    pub granted: Option<Shared<GrantItem>>,
+    /// What an operator ordered of him.
+    pub order: Option<OrderItem>,
     /// The change of an object that he knows and may read or watch.
     pub change: Option<Change>,
     /// The time, in time units, if it is another than before.

@@ -18,7 +18,7 @@ mod words;
 
 pub use error::AuditError;
 pub use explaining::{Explained, explain_projection};
-pub use item::{GrantItem, Item, OwnEvent, Projection};
+pub use item::{GrantItem, Item, OrderItem, OwnEvent, Projection};
 pub use lines::outline;
 pub use part_observer::PartObserver;
 pub use path::full_name;

@@ -10,7 +10,7 @@ ghost use Rattle.vp_replay.specs.declared.item.OwnEvent.TheVariants as own_event
 ghost use Rattle.vp_replay.specs.Seen.{denied_seen};
 
 use crate::error::AuditError;
-use crate::item::{GrantItem, Item, OwnEvent};
+use crate::item::{GrantItem, Item, OrderItem, OwnEvent};
 use crate::part_observer::PartObserver;
 use crate::watching::watch_rights;
 use std::alloc::{AllocError, Global};
@@ -261,10 +261,14 @@ impl<'a> Part<'a> {
         ensures accepted { OnOk result (takes self.old item.now ≡ true) }
         ensures refused { IfErr result (MayRefuse (takes self.old item.now)) }
     {
-        match (&item.own_event, &item.granted) {
+        match (&item.own_event, &item.order) {
             (Some(_), Some(_)) => Err(AuditError::NotOpen),
-            (None, Some(granted)) => {
+            (None, Some(OrderItem::Grant(granted))) => {
                 self.grant(granted.value())?;
+                Ok(None)
+            }
+            (None, Some(OrderItem::End)) => {
+                self.sessions.clear();
                 Ok(None)
             }
             (Some(own_event), None) => {

@@ -1,10 +1,11 @@
 -- How the world of a script began stays as it was, and how many entries of its log were handed out.
-use Rattle.std.proofs.Common.{◌≡◌, ◌∙◌, ℕ, zero, suc, Bool, false, true, List, [], ◌∷◌, Option, Some, None, refl, subst, inl, inr, ap}
+use Rattle.std.proofs.Common.{◌≡◌, ◌∙◌, ℕ, zero, suc, Bool, false, true, List, [], ◌∷◌, Option, Some, None, Result, Ok, Err, refl, subst, inl, inr, ap}
 use Rattle.std.specs.Prelude.{if◌then◌else◌, is_none}
 use Rattle.vp_race.specs.Segments.{FindingState}
 use Rattle.vp_answer.specs.declared.request.Call.TheVariants as call
 use Rattle.vp_answer.specs.declared.request.Request.{Request}
 use Rattle.vp_answer.specs.declared.request.Request.TheVariants as request
+use Rattle.vp_answer.specs.declared.reply.Refusal.{Refusal}
 use Rattle.vp_answer.specs.declared.reply.Reply.{Reply}
 use Rattle.vp_world.specs.declared.event.Event.{Event}
 use Rattle.vp_world.specs.declared.event.Event.TheVariants as event
@@ -33,9 +34,9 @@ by_refusal out_of_memory None w v e answer (inl (told, same)) = ap settled same
 by_refusal out_of_memory None w v e answer (inr (missing, told, same)) = ap settled same
 
 -- so does a request, whether there is an event of it or not
-pub applied_keeps : (out_of_memory : Bool) (e : Option Event) (w v : WorldLog) (answer : Reply) → Applied out_of_memory e w answer v → settled v ≡ settled w
-applied_keeps out_of_memory None w v answer (told, same) = ap settled same
-applied_keeps out_of_memory (Some e) w v answer applied = by_refusal out_of_memory (refused_by w e) w v e answer applied
+pub applied_keeps : (out_of_memory : Bool) (e : Result Event Refusal) (w v : WorldLog) (answer : Reply) → Applied out_of_memory e w answer v → settled v ≡ settled w
+applied_keeps out_of_memory (Err x) w v answer (told, same) = ap settled same
+applied_keeps out_of_memory (Ok e) w v answer applied = by_refusal out_of_memory (refused_by w e) w v e answer applied
 
 -- and what happens next
 turn_keeps : (seeds : ℕ) (w : WorldLog) (found : List FindingState) (q : Running) → turned_by seeds w found ≡ Some q → settled q.world ≡ settled w

@@ -1,8 +1,9 @@
 -- A kept script serves as the script says.
-use Rattle.std.proofs.Common.{inl, inr, ◌≡◌, ◌∙◌, ℕ, Bool, true, List, [], ◌∷◌, Option, Some, None, ap, subst}
+use Rattle.std.proofs.Common.{inl, inr, ◌≡◌, ◌∙◌, ℕ, Bool, true, List, [], ◌∷◌, Option, Some, None, Result, Ok, Err, ap, subst}
 use Rattle.vp_wire.specs.declared.dialogue.Stage.{Stage}
 use Rattle.vp_wire.specs.declared.dialogue.Stage.TheVariants.{Before, Open, Closed}
 use Rattle.vp_answer.specs.declared.request.Request.{Request}
+use Rattle.vp_answer.specs.declared.reply.Refusal.{Refusal}
 use Rattle.vp_answer.specs.declared.reply.Reply.{Reply}
 use Rattle.vp_world.specs.declared.error.WorldError.{WorldError}
 use Rattle.vp_world.specs.declared.event.Event.{Event}
@@ -29,9 +30,9 @@ applied_by_more a b (Some x) w v e answer up told = told
 applied_by_more a b None w v e answer up (inl done) = inl done
 applied_by_more a b None w v e answer up (inr (missing, told, same)) = inr (up missing, told, same)
 
-applied_more : (a b : Bool) (e : Option Event) (w v : WorldLog) (answer : Reply) → (a ≡ true → b ≡ true) → Applied a e w answer v → Applied b e w answer v
-applied_more a b None w v answer up applied = applied
-applied_more a b (Some e) w v answer up applied = applied_by_more a b (refused_by w e) w v e answer up applied
+applied_more : (a b : Bool) (e : Result Event Refusal) (w v : WorldLog) (answer : Reply) → (a ≡ true → b ≡ true) → Applied a e w answer v → Applied b e w answer v
+applied_more a b (Err x) w v answer up applied = applied
+applied_more a b (Ok e) w v answer up applied = applied_by_more a b (refused_by w e) w v e answer up applied
 
 serves_now_more : (a b : Bool) (before after : Script) (r : Request) (answer : Reply) → (a ≡ true → b ≡ true) → ServesNow a before r answer after → ServesNow b before r answer after
 serves_now_more a b before after r answer up s = record {

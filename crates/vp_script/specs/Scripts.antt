@@ -1,5 +1,5 @@
 -- A script: the lines of one session with a world, in which the simulation runs after each request (profile).
-use Rattle.std.specs.Prelude.{◌≡◌, ◌⊎◌, ◌<◌, ◌≤◌, IsUtf8, length, ℕ, zero, suc, Bool, true, false, if◌then◌else◌, List, [], ◌∷◌, Option, Some, None, is_none, Ok}
+use Rattle.std.specs.Prelude.{◌≡◌, ◌⊎◌, ◌<◌, ◌≤◌, IsUtf8, length, ℕ, zero, suc, Bool, true, false, if◌then◌else◌, List, [], ◌∷◌, Option, Some, None, is_none, Result, Ok, Err}
 use Rattle.std.specs.Option.{option_map_or}
 use Rattle.std.specs.Result.{result_err}
 use Rattle.vp_text.specs.Refusals.{MayExplain}
@@ -20,6 +20,7 @@ use Rattle.vp_answer.specs.declared.request.SessionId.{SessionId}
 use Rattle.vp_world.specs.declared.error.WorldError.{WorldError}
 use Rattle.vp_world.specs.declared.error.WorldError.TheVariants as error
 use Rattle.vp_world.specs.declared.limits.Limits.{Limits}
+use Rattle.vp_answer.specs.declared.reply.Refusal.{Refusal}
 use Rattle.vp_answer.specs.declared.reply.Refusal.TheVariants as refusal
 use Rattle.vp_answer.specs.declared.reply.Reply.{Reply}
 use Rattle.vp_answer.specs.declared.reply.Reply.TheVariants as reply
@@ -44,10 +45,10 @@ AppliedBy out_of_memory None w happens answer v =
     ((answer ≡ answered_by w happens) × (v ≡ with_entry w happens))
     ⊎ ((out_of_memory ≡ true) × (answer ≡ reply.Error refusal.NoMemory) × (v ≡ w))
 
--- what a world does with an event, if there is one: a request of a session that was not opened is none
-abbrev pub Applied : (out_of_memory : Bool) → Option Event → WorldLog → Reply → WorldLog → Type 0
-Applied out_of_memory None w answer v = (answer ≡ reply.Error refusal.NotOpen) × (v ≡ w)
-Applied out_of_memory (Some e) w answer v = AppliedBy out_of_memory (refused_by w e) w e answer v
+-- what a world does with an event, where a request is one; a request that is none is refused, and nothing happens
+abbrev pub Applied : (out_of_memory : Bool) → Result Event Refusal → WorldLog → Reply → WorldLog → Type 0
+Applied out_of_memory (Err e) w answer v = (answer ≡ reply.Error e) × (v ≡ w)
+Applied out_of_memory (Ok e) w answer v = AppliedBy out_of_memory (refused_by w e) w e answer v
 
 -- ---- the simulation runs
 
@@ -115,13 +116,17 @@ pub record Script : Type 0 where
   pub running : Running
   pub session : Option SessionId
 
--- the event of a request
-abbrev pub event_of : Option SessionId → Request → Option Event
-event_of session (request.Open user token) = Some (event.Open user token)
-event_of session (request.Grant change) = Some (event.Grant change)
-event_of None (request.Call c) = None
-event_of (Some id) (request.Call (call.Query query)) = Some (event.Ask id query)
-event_of (Some id) (request.Call call.Close) = Some (event.Close id)
+-- the event of a request; or why it is none: a session's where none was opened, and a server's, since a script has none (profile)
+abbrev pub event_of : Option SessionId → Request → Result Event Refusal
+event_of session (request.Open user token) = Ok (event.Open user token)
+event_of session (request.Grant change) = Ok (event.Grant change)
+event_of session (request.End order) = Ok (event.End order)
+event_of session (request.Halt order) = Ok (event.Halt order)
+event_of session (request.Status token) = Err refusal.BadRequest
+event_of session (request.Shutdown token) = Err refusal.BadRequest
+event_of None (request.Call c) = Err refusal.NotOpen
+event_of (Some id) (request.Call (call.Query query)) = Ok (event.Ask id query)
+event_of (Some id) (request.Call call.Close) = Ok (event.Close id)
 
 -- the session of a script after a reply
 abbrev pub session_after : Option SessionId → Reply → Option SessionId

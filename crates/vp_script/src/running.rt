@@ -1,5 +1,5 @@
 // A world whose simulation runs, and what it does is searched for races.
-ghost use Rattle.std.specs.Prelude.{◌≡◌, ◌++◌, ◌⊎◌, ℕ, [], None, Some, option_map, IfErr, IfOk, IfSome, OnErr, OnOk, is_err, is_none, false, true};
+ghost use Rattle.std.specs.Prelude.{◌≡◌, ◌++◌, ◌⊎◌, ℕ, [], None, Some, option_map, IfErr, IfOk, OnErr, OnOk, is_err, is_none, false, true};
 ghost use Rattle.std.specs.Arc.{arc_value};
 ghost use Rattle.std.specs.List.{All};
 ghost use Rattle.vp_elab.specs.Built.{Elaborated};
@@ -24,13 +24,14 @@ use vp_world::{Event, Log, World, WorldError};
 /// A search tries orders of at most so many steps.
 const STEP_LIMIT: u64 = 10_000;
 
-/// What a world answers to an event, if there is one, or says where it refuses it.
-fn applied(world: &mut World, event: Option<Event>) -> Reply
-    requires { IfSome event (IsWellFormed world.old.opening.design) }
+/// What a world answers to the event of a request, or says where it refuses it; a request that is none is refused.
+fn applied(world: &mut World, event: Result<Event, Refusal>) -> Reply
+    requires { IfOk event (IsWellFormed world.old.opening.design) }
     ensures { Applied (is_no_memory result) event world.old result world.new }
 {
-    let Some(event) = event else {
-        return Reply::Error(Refusal::NotOpen);
+    let event = match event {
+        Ok(event) => event,
+        Err(refusal) => return Reply::Error(refusal),
     };
     match world.apply(event) {
         Ok(reply) => reply,
@@ -309,9 +310,9 @@ impl RunningWorld {
         self.world.log()
     }
 
-    /// What the world answers to an event, if there is one, or says where it refuses it.
-    pub fn apply(&mut self, event: Option<Event>) -> Reply
-        requires { IfSome event (IsWellFormed self.old.world.opening.design) }
+    /// What the world answers to the event of a request, or says where it refuses it; a request that is none is refused.
+    pub fn apply(&mut self, event: Result<Event, Refusal>) -> Reply
+        requires { IfOk event (IsWellFormed self.old.world.opening.design) }
         ensures applied { Applied (is_no_memory result) event self.old.world result self.new.world }
         ensures kept { self.new ≡ with_world self.old self.new.world }
     {

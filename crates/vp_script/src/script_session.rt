@@ -1,5 +1,5 @@
 // A script's session: each request is answered by the world, in which the simulation runs after it.
-ghost use Rattle.std.specs.Prelude.{◌≡◌, ◌||◌, [], None, IfSome, false};
+ghost use Rattle.std.specs.Prelude.{◌≡◌, ◌||◌, [], None, IfOk, false};
 ghost use Rattle.vp_elab.specs.Built.{Elaborated};
 ghost use Rattle.vp_script.specs.Keeping.{Keeps, KeepsNow};
 ghost use Rattle.vp_script.specs.Pending.{is_no_memory};
@@ -13,17 +13,20 @@ use vp_answer::{Call, Refusal, Reply, Request, SessionId};
 use vp_wire::Caller;
 use vp_world::{Event, Log, World};
 
-/// The event of a request; none where it is of a session and none was opened.
-fn event_of(session: Option<SessionId>, request: Request) -> Option<Event>
+/// The event of a request; or why it is none: a session's where none was opened, and a server's.
+fn event_of(session: Option<SessionId>, request: Request) -> Result<Event, Refusal>
     ensures event { result ≡ event_of session request }
-    ensures well_formed { (design : Elaborated) → IfSome result (IsWellFormed design) }
+    ensures well_formed { (design : Elaborated) → IfOk result (IsWellFormed design) }
 {
     match (request, session) {
-        (Request::Open { user, token }, _) => Some(Event::Open { user, token }),
-        (Request::Grant(change), _) => Some(Event::Grant(change)),
-        (_, None) => None,
-        (Request::Call(Call::Query(query)), Some(session)) => Some(Event::Ask { session, query }),
-        (Request::Call(Call::Close), Some(session)) => Some(Event::Close { session }),
+        (Request::Open { user, token }, _) => Ok(Event::Open { user, token }),
+        (Request::Grant(change), _) => Ok(Event::Grant(change)),
+        (Request::End(order), _) => Ok(Event::End(order)),
+        (Request::Halt(order), _) => Ok(Event::Halt(order)),
+        (Request::Status { .. } | Request::Shutdown { .. }, _) => Err(Refusal::BadRequest),
+        (Request::Call(_), None) => Err(Refusal::NotOpen),
+        (Request::Call(Call::Query(query)), Some(session)) => Ok(Event::Ask { session, query }),
+        (Request::Call(Call::Close), Some(session)) => Ok(Event::Close { session }),
     }
 }
 

@@ -12,7 +12,7 @@ use std::thread::Threads;
 use std::time::Clock;
 use std::{env, io};
 use vp_audit::Audit;
-use vp_cli::{Command, Misuse, command};
+use vp_cli::{Command, Misuse, VERSION, command};
 use vp_hub::Settings;
 use vp_script::{
     Audited, Failure, Ran, ServeFault, audit_files, check_files, run_files, run_input, view_files,
@@ -154,13 +154,15 @@ where
                 workers,
                 sessions,
                 keep,
+                log,
             },
         ) => {
             let settings = Settings {
                 keep,
+                version: VERSION,
                 ..Settings::new(workers, sessions)
             };
-            fault_status(rt, serve_files(rt, design, policy, port, settings))
+            fault_status(rt, serve_files(rt, design, policy, port, settings, log))
         }
         Ok(Command::Bundle) => run_status(rt, run_input(rt)),
         Ok(Command::Show(text)) => print_text(rt, &text),

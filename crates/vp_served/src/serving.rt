@@ -4,13 +4,15 @@ ghost use Rattle.vp_design.specs.Rendering.{plain_text};
 ghost use Rattle.vp_script.specs.Failure.{IsToldOr};
 ghost use Rattle.vp_hub.specs.ServerFaults as server;
 
+use jiff::Timestamp;
 use std::alloc::Global;
+use std::io;
 use std::net::{Ipv4Addr, Net, TcpListener, TcpStream};
 use std::rt::Files;
 use std::sync::Wait;
 use std::thread::Threads;
 use std::time::Clock;
-use vp_hub::{Closed, Report, ServerError, Settings, serve};
+use vp_hub::{Closed, Report, ServerError, ServerEvent, Settings, serve};
 use vp_race::Gate;
 use vp_script::{Failure, ServeFault, SourceFiles, fresh_world};
 use vp_wire::WireError;
@@ -88,10 +90,12 @@ fn entry_count(closed: Closed) -> u64 {
     entries
 }
 
-/// The standard error of whoever runs a server.
+/// The standard error of whoever runs a server on a port, and whether he is to read there what happens.
 #[derive(Clone, Copy)]
 struct Console<'a, R> {
     rt: &'a R,
+    port: u16,
+    log: bool,
 }
 
 impl<R> Gate for Console<'_, R> {
@@ -102,32 +106,76 @@ impl<R> Gate for Console<'_, R> {
     }
 }
 
-impl<R: Eprint> Report for Console<'_, R> {
+impl<R> Report for Console<'_, R>
+where
+    R: Eprint + Clock + Net<Listener = TcpListener, Stream = TcpStream>,
+{
     fn goes_round(&self, process: &str) {
         let _ = eprintln!(self.rt;
             "{process} goes round: its time slot has 4194304 steps, and stands still until a put"
         );
     }
+
+    fn happened(&self, address: &str, event: ServerEvent<'_>) {
+        if !self.log {
+            return;
+        }
+        if let Ok(now) = Timestamp::now(self.rt) {
+            let _ = self.log_line(now, address, event);
+        }
+    }
+
+    fn wake(&self) {
+        let _ = TcpStream::connect(self.rt, (Ipv4Addr::LOCALHOST, self.port));
+    }
+}
+
+impl<R: Eprint> Console<'_, R> {
+    /// Prints what happened at a time on a connection from an address.
+    fn log_line(&self, now: Timestamp, address: &str, event: ServerEvent<'_>) -> io::Result<()> {
+        let rt = self.rt;
+        match event {
+            ServerEvent::Open { user } => eprintln!(rt; "{now} {address} {user} opened"),
+            ServerEvent::Close { user, denials } => {
+                eprintln!(rt; "{now} {address} {user} closed, denied {denials}")
+            }
+            ServerEvent::WrongToken => eprintln!(rt; "{now} {address} wrong token"),
+            ServerEvent::Grant { user, envelope } => {
+                eprintln!(rt; "{now} {address} operator grants {user} envelope {envelope}")
+            }
+            ServerEvent::End { user } => eprintln!(rt; "{now} {address} operator ends {user}"),
+            ServerEvent::Halt => eprintln!(rt; "{now} {address} operator stops the simulation"),
+            ServerEvent::Shutdown => eprintln!(rt; "{now} {address} operator ends the server"),
+        }
+    }
 }
 
 /// Serves a world in which nothing has happened to whoever connects to a listener, and gives the number of the log's entries at the end; or
 /// the fault of `vp_hub::serve`.
-fn serve_world<R: AllocGlobal + Eprint + Threads + Wait + Clock + Sync>(
+fn serve_world<R>(
     rt: &R,
     world: World,
     settings: Settings,
     listener: &TcpListener,
+    console: &Console<'_, R>,
 ) -> Result<u64, Failure>
+where
+    R: AllocGlobal
+        + Eprint
+        + Net<Listener = TcpListener, Stream = TcpStream>
+        + Threads
+        + Wait
+        + Clock
+        + Sync,
     requires empty { world.log ≡ [] }
 {
-    let console = Console { rt };
-    match serve(rt, rt.alloc(), world, settings, listener, &console) {
+    match serve(rt, rt.alloc(), world, settings, listener, console) {
         Ok(closed) => Ok(entry_count(closed)),
         Err(fault) => Err(failure_of(rt.alloc(), fault)),
     }
 }
 
-/// Serves the files of a design and a policy on a port of 127.0.0.1, and prints `listening` and the port before, and `closed` and the number of
+/// Serves the files of a design and a policy on a port of 127.0.0.1, reporting what happens if that is asked, and prints `listening` and the port before, and `closed` and the number of
 /// the log's entries at the end. The faults are first those of reading both, then that the port can't be listened on (1605), and then those of
 /// `vp_hub::serve`.
 pub fn serve_files<R>(
@@ -136,6 +184,7 @@ pub fn serve_files<R>(
     policy: &str,
     port: u16,
     settings: Settings,
+    log: bool,
 ) -> Result<(), Failure>
 where
     R: AllocGlobal
@@ -156,7 +205,8 @@ where
     }
     match listen(rt, port) {
         Ok(listener) => {
-            let entries = serve_world(rt, world, settings, &listener)?;
+            let console = Console { rt, port, log };
+            let entries = serve_world(rt, world, settings, &listener, &console)?;
             print_line(rt, "closed", entries)
         }
         Err(refused) => {

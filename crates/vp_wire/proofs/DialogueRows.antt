@@ -39,6 +39,25 @@ grant_before_open = refl
 granted_before_open : stage_after Before grants reply.Done ≡ Before
 granted_before_open = refl
 
+-- so may an operator's other requests, but not a session's own stop
+abbrev halts : request.the_data
+halts = request.Halt (record { token = codes "op" })
+
+halt_before_open : turn_of_request Before halts ≡ Calls halts
+halt_before_open = refl
+
+abbrev ends : request.the_data
+ends = request.End (record { token = codes "op"; user = codes "ann" })
+
+end_after_close : turn_of_request Closed ends ≡ Calls ends
+end_after_close = refl
+
+status_before_open : turn_of_request Before (request.Status (codes "op")) ≡ Calls (request.Status (codes "op"))
+status_before_open = refl
+
+stop_before_open : turn_of_request Before (request.Call (call.Query query.Stop)) ≡ Tells (codes "not open")
+stop_before_open = refl
+
 -- after a close the caller is asked, and says that no session is open
 after_close : turn_of_request Closed (request.Call (call.Query query.Time)) ≡ Calls (request.Call (call.Query query.Time))
 after_close = refl

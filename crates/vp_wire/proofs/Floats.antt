@@ -11,7 +11,8 @@ use Rattle.vp_vpi.specs.declared.iteration.ListedObject.{ListedObject}
 use Rattle.vp_vpi.specs.declared.races.RaceLine.{RaceLine}
 use Rattle.vp_answer.specs.declared.reply.Reply.{Reply}
 use Rattle.vp_answer.specs.declared.reply.Reply.TheVariants as reply
-use Rattle.vp_wire.specs.Lines.{by_text, data_of, denial_members, listed_data, notice_data, pair_data, race_line_data, words_of}
+use Rattle.vp_answer.specs.declared.status.UserSessions.{UserSessions}
+use Rattle.vp_wire.specs.Lines.{by_text, data_of, denial_members, listed_data, notice_data, pair_data, race_line_data, user_sessions_data, words_of}
 
 -- lists of numbers
 numbers_whole : (ns : List ℕ) → items_have_float (items_of (map (λ n. number (unsigned n)) ns)) ≡ false
@@ -37,6 +38,11 @@ lines_whole (l ∷ ls) = lines_whole ls
 steps_whole : (steps : List (List ℕ)) → items_have_float (items_of (map string steps)) ≡ false
 steps_whole [] = refl
 steps_whole (s ∷ steps) = steps_whole steps
+
+-- how many sessions each user has open
+users_whole : (us : List UserSessions) → items_have_float (items_of (map user_sessions_data us)) ≡ false
+users_whole [] = refl
+users_whole (u ∷ us) = users_whole us
 
 -- one list or another
 either_whole : (first : Bool) (xs ys : Items) → items_have_float xs ≡ false → items_have_float ys ≡ false → items_have_float (if first then xs else ys) ≡ false
@@ -81,4 +87,5 @@ reply_whole (reply.Job job) = refl
 reply_whole (reply.Denied words) = or_false_one (denial_whole words.author (by_text words.by) words.envelope words.object (name_of words.right))
 reply_whole reply.RunDenied = refl
 reply_whole (reply.Time time finished) = refl
+reply_whole (reply.Status status) = or_false_one (or_false_one (users_whole status.world.sessions))
 reply_whole (reply.Error refusal) = refl

@@ -1,5 +1,5 @@
 -- Lines, computed. Each row is an equation that holds by computation.
-use Rattle.std.proofs.Common.{◌≡◌, [], ◌∷◌, Some, None, refl}
+use Rattle.std.proofs.Common.{◌≡◌, true, [], ◌∷◌, Some, None, refl}
 use Rattle.std.specs.Prelude.{codes}
 use Rattle.std.specs.Fmt.{digits}
 use Rattle.std.specs.Str.{is_utf8, chars}
@@ -49,6 +49,27 @@ notices :
     ≡ codes "{\"lost\":7,\"notices\":[{\"cb\":1,\"time\":5,\"value\":\"1x0z\"}]}\n"
 unfolding serde_json_on_literals digits
 notices = refl
+
+status :
+    line_of (reply.Status (record {
+      world = record {
+        time = 5;
+        running = true;
+        entries = 12;
+        held = 7;
+        bytes = 40;
+        sessions = record { user = codes "ann"; sessions = 2 } ∷ [];
+        jobs = 1;
+        races = 3;
+      };
+      connections = 4;
+      denials = 6;
+      wrong_tokens = 0;
+      version = codes "0.1.0";
+    }))
+    ≡ codes "{\"connections\":4,\"denials\":6,\"version\":\"0.1.0\",\"world\":{\"bytes\":40,\"entries\":12,\"held\":7,\"jobs\":1,\"races\":3,\"running\":true,\"sessions\":[{\"sessions\":2,\"user\":\"ann\"}],\"time\":5},\"wrong_tokens\":0}\n"
+unfolding serde_json_on_literals digits
+status = refl
 
 no_such_name : line_of (reply.Error refusal.NoSuchName) ≡ codes "{\"error\":\"no such name\"}\n"
 unfolding serde_json_on_literals
@@ -115,3 +136,43 @@ grant_of_no_right :
     meaning_of (codes "{\"op\":\"grant\",\"token\":\"op\",\"user\":\"ann\",\"envelope\":1,\"access\":\"peek\"}") ≡ NotRequest
 unfolding serde_json_on_literals is_utf8 chars
 grant_of_no_right = refl
+
+-- ---- what else an operator asks
+
+asks_end :
+    meaning_of (codes "{\"op\":\"end\",\"token\":\"op\",\"user\":\"ann\"}") ≡ Asks (request.End (record { token = codes "op"; user = codes "ann" }))
+unfolding serde_json_on_literals is_utf8 chars
+asks_end = refl
+
+end_of_nobody : meaning_of (codes "{\"op\":\"end\",\"token\":\"op\"}") ≡ NotRequest
+unfolding serde_json_on_literals is_utf8 chars
+end_of_nobody = refl
+
+-- with a token a stop is the operator's, and without one a session's
+asks_halt : meaning_of (codes "{\"op\":\"stop\",\"token\":\"op\"}") ≡ Asks (request.Halt (record { token = codes "op" }))
+unfolding serde_json_on_literals is_utf8 chars
+asks_halt = refl
+
+asks_stop : meaning_of (codes "{\"op\":\"stop\"}") ≡ Asks (request.Call (call.Query query.Stop))
+unfolding serde_json_on_literals is_utf8 chars
+asks_stop = refl
+
+stop_until : meaning_of (codes "{\"op\":\"stop\",\"until\":5}") ≡ NotRequest
+unfolding serde_json_on_literals is_utf8 chars
+stop_until = refl
+
+halt_by_a_number : meaning_of (codes "{\"op\":\"stop\",\"token\":1}") ≡ NotRequest
+unfolding serde_json_on_literals is_utf8 chars
+halt_by_a_number = refl
+
+asks_status : meaning_of (codes "{\"op\":\"status\",\"token\":\"op\"}") ≡ Asks (request.Status (codes "op"))
+unfolding serde_json_on_literals is_utf8 chars
+asks_status = refl
+
+asks_shutdown : meaning_of (codes "{\"op\":\"shutdown\",\"token\":\"op\"}") ≡ Asks (request.Shutdown (codes "op"))
+unfolding serde_json_on_literals is_utf8 chars
+asks_shutdown = refl
+
+status_without_a_token : meaning_of (codes "{\"op\":\"status\"}") ≡ NotRequest
+unfolding serde_json_on_literals is_utf8 chars
+status_without_a_token = refl

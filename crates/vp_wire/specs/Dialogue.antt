@@ -55,10 +55,14 @@ abbrev pub is_opening : Request → Bool
 is_opening (request.Open user token) = true
 is_opening r = false
 
--- a request changes a grant: it is an operator's, and may stand anywhere
-abbrev pub is_grant : Request → Bool
-is_grant (request.Grant change) = true
-is_grant r = false
+-- a request is an operator's: it may stand anywhere
+abbrev pub is_operators : Request → Bool
+is_operators (request.Grant change) = true
+is_operators (request.End order) = true
+is_operators (request.Halt order) = true
+is_operators (request.Status token) = true
+is_operators (request.Shutdown token) = true
+is_operators r = false
 
 -- an `open` is asked once; before it is answered every other request is answered that no session is open
 abbrev pub turn_by_opening : Stage → Request → (opens : Bool) → Turn
@@ -71,7 +75,7 @@ turn_by_opening Closed r false = Calls r
 
 -- what becomes of a request
 abbrev pub turn_of_request : Stage → Request → Turn
-turn_of_request stage r = if is_grant r then Calls r else turn_by_opening stage r (is_opening r)
+turn_of_request stage r = if is_operators r then Calls r else turn_by_opening stage r (is_opening r)
 
 -- what becomes of a line that is not too long, by what it means
 abbrev pub turn_of_meaning : Stage → Meaning → Turn

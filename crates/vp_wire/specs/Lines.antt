@@ -34,6 +34,9 @@ use Rattle.vp_answer.specs.declared.query.ValueFormat.TheVariants as format
 use Rattle.vp_answer.specs.declared.query.Query.{Query}
 use Rattle.vp_answer.specs.declared.query.Query.TheVariants as query
 use Rattle.vp_answer.specs.declared.request.Call.TheVariants as call
+use Rattle.vp_answer.specs.declared.status.ServerStatus.{ServerStatus}
+use Rattle.vp_answer.specs.declared.status.UserSessions.{UserSessions}
+use Rattle.vp_answer.specs.declared.status.WorldStatus.{WorldStatus}
 use Rattle.vp_answer.specs.declared.request.Request.{Request}
 use Rattle.vp_answer.specs.declared.request.Request.TheVariants as request
 use Rattle.vp_answer.specs.declared.reply.Refusal.{Refusal}
@@ -189,6 +192,32 @@ race_data r =
 abbrev pub job_data : ℕ → Data
 job_data job = only (codes "job") (number (unsigned job))
 
+-- how many sessions a user has open as JSON, its keys in the order of their bytes (profile)
+abbrev pub user_sessions_data : UserSessions → Data
+user_sessions_data u =
+    object (member (codes "sessions") (number (unsigned u.sessions)) (member (codes "user") (string u.user) no_members))
+
+-- how a world stands as JSON, its keys in the order of their bytes (profile)
+abbrev pub world_status_data : WorldStatus → Data
+world_status_data w =
+    object (member (codes "bytes") (number (unsigned w.bytes))
+    (member (codes "entries") (number (unsigned w.entries))
+    (member (codes "held") (number (unsigned w.held))
+    (member (codes "jobs") (number (unsigned w.jobs))
+    (member (codes "races") (number (unsigned w.races))
+    (member (codes "running") (boolean w.running)
+    (member (codes "sessions") (array (items_of (map user_sessions_data w.sessions)))
+    (member (codes "time") (number (unsigned w.time)) no_members))))))))
+
+-- how a server stands as JSON, its keys in the order of their bytes (profile)
+abbrev pub status_data : ServerStatus → Data
+status_data s =
+    object (member (codes "connections") (number (unsigned s.connections))
+    (member (codes "denials") (number (unsigned s.denials))
+    (member (codes "version") (string s.version)
+    (member (codes "world") (world_status_data s.world)
+    (member (codes "wrong_tokens") (number (unsigned s.wrong_tokens)) no_members)))))
+
 -- a refusal as JSON (profile)
 abbrev pub error_data : Refusal → Data
 error_data refusal = only (codes "error") (string (text_of refusal))
@@ -212,6 +241,7 @@ data_of (reply.Job job) = job_data job
 data_of (reply.Denied words) = denial_data words
 data_of reply.RunDenied = run_denial_data
 data_of (reply.Time time finished) = time_data time finished
+data_of (reply.Status status) = status_data status
 data_of (reply.Error refusal) = error_data refusal
 
 -- the line of a reply: compact JSON, and a newline (profile)
@@ -279,6 +309,32 @@ grant_request d =
     of_keys (codes "token" ∷ codes "user" ∷ codes "envelope" ∷ codes "access" ∷ []) d
     (option_and_then (λ token. option_and_then (λ user. option_and_then (λ envelope. option_map (grant_of_words token user envelope)
     (access_at (codes "access") d)) (number_at (codes "envelope") d)) (text_at (codes "user") d)) (text_at (codes "token") d))
+
+-- the request of these words to end a user's sessions
+abbrev pub end_of_words : List ℕ → List ℕ → Request
+end_of_words token user = request.End (record { token = token; user = user })
+
+-- the request to end a user's sessions (profile)
+abbrev pub end_request : Data → Option Request
+end_request d =
+    of_keys (codes "token" ∷ codes "user" ∷ []) d
+    (option_and_then (λ token. option_map (end_of_words token) (text_at (codes "user") d)) (text_at (codes "token") d))
+
+-- the token of an operator who gives nothing else
+abbrev pub token_alone : Data → Option (List ℕ)
+token_alone d = of_keys (codes "token" ∷ []) d (text_at (codes "token") d)
+
+-- an operator's request to let the design stand still (profile)
+abbrev pub halt_request : Data → Option Request
+halt_request d = option_map (λ token. request.Halt (record { token = token })) (token_alone d)
+
+-- an operator's request of how the server stands (profile)
+abbrev pub status_request : Data → Option Request
+status_request d = option_map request.Status (token_alone d)
+
+-- an operator's request to end the server (profile)
+abbrev pub shutdown_request : Data → Option Request
+shutdown_request d = option_map request.Shutdown (token_alone d)
 
 -- the query of a handle
 abbrev pub handle_query : Data → Option Query
@@ -414,6 +470,10 @@ race_query d = of_keys (codes "no" ∷ []) d (option_map query.Race (long_at (co
 abbrev pub run_query : Data → Option Query
 run_query d = of_keys (codes "until" ∷ []) d (option_map query.Run (time_at (codes "until") d))
 
+-- the query to let the design stand still
+abbrev pub stop_query : Data → Option Query
+stop_query d = of_keys [] d (Some query.Stop)
+
 -- the query of the time
 abbrev pub time_query : Data → Option Query
 time_query d = of_keys [] d (Some query.Time)
@@ -438,13 +498,30 @@ query_of_op op d =
     else (if bytes_eq op (codes "time") then time_query d
     else None))))))))))))))
 
+-- a query as a request, if it is one
+abbrev pub query_request : Option Query → Option Request
+query_request q = option_map (λ r. request.Call (call.Query r)) q
+
+-- the request to let the design stand still: an operator's where a token is given, else a session's (profile)
+abbrev pub stop_request : Data → Option Request
+stop_request d = if is_some (get (codes "token") d) then halt_request d else query_request (stop_query d)
+
+-- the request of an op that an operator asks, or a session that is open (profile)
+abbrev pub order_of_op : List ℕ → Data → Option Request
+order_of_op op d =
+    if bytes_eq op (codes "grant") then grant_request d
+    else (if bytes_eq op (codes "end") then end_request d
+    else (if bytes_eq op (codes "stop") then stop_request d
+    else (if bytes_eq op (codes "status") then status_request d
+    else (if bytes_eq op (codes "shutdown") then shutdown_request d
+    else query_request (query_of_op op d)))))
+
 -- the request of an op (profile)
 abbrev pub request_of_op : List ℕ → Data → Option Request
 request_of_op op d =
     if bytes_eq op (codes "open") then open_request d
     else (if bytes_eq op (codes "close") then close_request d
-    else (if bytes_eq op (codes "grant") then grant_request d
-    else option_map (λ q. request.Call (call.Query q)) (query_of_op op d)))
+    else order_of_op op d)
 
 -- the request of a JSON value; none where it is no request
 abbrev pub request_of : Data → Option Request

@@ -2,7 +2,7 @@ ghost use Rattle.std.specs.Prelude.{◌≡◌, ◌≤◌, ◌<◌, ◌+◌, ◌^
 ghost use Rattle.std.specs.Io.KnownBytes.{IsAtEnd};
 ghost use Rattle.vp_answer.specs.declared.request.Request.{Request};
 ghost use Rattle.vp_answer.specs.declared.reply.Reply.{Reply};
-ghost use Rattle.vp_wire.specs.Dialogue.{Answers, Asked, Closes, IsDialogue, IsWhole, Point, Stops, is_grant, is_opening, stage_after, turn_of, turn_of_request};
+ghost use Rattle.vp_wire.specs.Dialogue.{Answers, Asked, Closes, IsDialogue, IsWhole, Point, Stops, is_operators, is_opening, stage_after, turn_of, turn_of_request};
 ghost use Rattle.vp_wire.specs.Lines.{line_of};
 ghost use Rattle.vp_wire.specs.Failures.{failures_after, one_more, reader_failures, writer_failures};
 ghost use Rattle.vp_wire.specs.Reading.{Finishes, Goes, IsBegun, Progress, Takes, AnswersLine, is_closing, lacks_memory, point_of, remaining_size, reply_text, turn_by};
@@ -59,7 +59,7 @@ impl Stage {
     pub(crate) fn admitted(self, request: Request) -> Result<Request, LineError>
         ensures { turn_of_request self request ≡ turn_by result }
     {
-        if is_grant(&request) {
+        if is_operators(&request) {
             return Ok(request);
         }
         match (self, is_opening(&request)) {
@@ -89,11 +89,18 @@ fn is_opening(request: &Request) -> bool
     matches!(request, Request::Open { .. })
 }
 
-/// The request changes a grant.
-fn is_grant(request: &Request) -> bool
-    ensures { result ≡ is_grant request.now }
+/// The request is an operator's.
+fn is_operators(request: &Request) -> bool
+    ensures { result ≡ is_operators request.now }
 {
-    matches!(request, Request::Grant(_))
+    matches!(
+        request,
+        Request::Grant(_)
+            | Request::End(_)
+            | Request::Halt(_)
+            | Request::Status { .. }
+            | Request::Shutdown { .. }
+    )
 }
 
 /// The request closes a session.

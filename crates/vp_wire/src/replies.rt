@@ -2,12 +2,12 @@
 ghost use Rattle.std.specs.Prelude.{◌≡◌, ◌++◌, ◌∷◌, [], None, map, string_bytes, IfOk, IsOkUnless, OnOk};
 ghost use Rattle.serde_json.specs.Data.{array, put as with_member, string};
 ghost use Rattle.serde_json.specs.View.{items_of, members_view, view};
-ghost use Rattle.vp_wire.specs.Lines.{both_steps_data, by_text, callback_data, data_of, denial_data, denial_members, digits_data, done_data, error_data, handle_data, job_data, line_of, listed_data, listing_data, notice_data, number_data, numbers_data, only, pair_data, polled_data, race_data, race_line_data, races_data, run_denial_data, same_data, steps_data, text_data, time_data, values_data, vector_data, words_data, words_of};
+ghost use Rattle.vp_wire.specs.Lines.{both_steps_data, by_text, callback_data, data_of, denial_data, denial_members, digits_data, done_data, error_data, handle_data, job_data, line_of, listed_data, listing_data, notice_data, number_data, numbers_data, only, pair_data, polled_data, race_data, race_line_data, races_data, run_denial_data, same_data, status_data, steps_data, text_data, time_data, user_sessions_data, values_data, vector_data, words_data, words_of, world_status_data};
 
 use crate::error::WireError;
 use serde_json::{Map, Value, put};
 use std::alloc::{AllocError, Global};
-use vp_answer::{Refusal, Reply};
+use vp_answer::{Refusal, Reply, ServerStatus, UserSessions, WorldStatus};
 use vp_bits::Bits;
 use vp_notify::{Notices, PolledNotice};
 use vp_policy::{DenialText, ShownBarrier};
@@ -359,6 +359,73 @@ fn time_value(alloc: Global, time: u64, finished: bool) -> Result<Value, AllocEr
     Ok(Value::Object(members))
 }
 
+/// How many sessions a user has open.
+fn user_sessions_value(alloc: Global, sessions: &UserSessions) -> Result<Value, AllocError>
+    ensures { IfOk result (λ v. view v ≡ user_sessions_data sessions.now) }
+{
+    let mut members = Map::new(alloc);
+    put(
+        &mut members,
+        alloc,
+        "sessions",
+        Value::from(sessions.sessions),
+    )?;
+    put_text(alloc, &mut members, "user", sessions.user.as_str())?;
+    Ok(Value::Object(members))
+}
+
+/// How many sessions each user has open.
+fn users_value(alloc: Global, users: &[UserSessions]) -> Result<Value, AllocError>
+    ensures { IfOk result (λ v. view v ≡ array (items_of (map user_sessions_data users.now))) }
+{
+    let mut items = Vec::new(alloc);
+    for user in users {
+        items.push(user_sessions_value(alloc, user)?)?;
+    }
+    Ok(Value::Array(items))
+}
+
+/// How a world stands.
+fn world_status_value(alloc: Global, world: &WorldStatus) -> Result<Value, AllocError>
+    ensures { IfOk result (λ v. view v ≡ world_status_data world.now) }
+{
+    let mut members = Map::new(alloc);
+    put(&mut members, alloc, "bytes", Value::from(world.bytes))?;
+    put(&mut members, alloc, "entries", Value::from(world.entries))?;
+    put(&mut members, alloc, "held", Value::from(world.held))?;
+    put(&mut members, alloc, "jobs", Value::from(world.jobs))?;
+    put(&mut members, alloc, "races", Value::from(world.races))?;
+    put(&mut members, alloc, "running", Value::Bool(world.running))?;
+    let users = users_value(alloc, world.sessions.as_slice())?;
+    put(&mut members, alloc, "sessions", users)?;
+    put(&mut members, alloc, "time", Value::from(world.time))?;
+    Ok(Value::Object(members))
+}
+
+/// How a server stands.
+fn status_value(alloc: Global, status: &ServerStatus) -> Result<Value, AllocError>
+    ensures { IfOk result (λ v. view v ≡ status_data status.now) }
+{
+    let mut members = Map::new(alloc);
+    put(
+        &mut members,
+        alloc,
+        "connections",
+        Value::from(status.connections),
+    )?;
+    put(&mut members, alloc, "denials", Value::from(status.denials))?;
+    put_text(alloc, &mut members, "version", status.version.as_str())?;
+    let world = world_status_value(alloc, &status.world)?;
+    put(&mut members, alloc, "world", world)?;
+    put(
+        &mut members,
+        alloc,
+        "wrong_tokens",
+        Value::from(status.wrong_tokens),
+    )?;
+    Ok(Value::Object(members))
+}
+
 /// Another refusal.
 fn error_value(alloc: Global, refusal: Refusal) -> Result<Value, AllocError>
     ensures { IfOk result (λ v. view v ≡ error_data refusal) }
@@ -387,6 +454,7 @@ fn value_of(alloc: Global, reply: &Reply) -> Result<Value, AllocError>
         Reply::Denied(words) => denied(alloc, words),
         Reply::RunDenied => run_denied(alloc),
         Reply::Time { time, finished } => time_value(alloc, *time, *finished),
+        Reply::Status(status) => status_value(alloc, status.value()),
         Reply::Error(refusal) => error_value(alloc, *refusal),
     }
 }

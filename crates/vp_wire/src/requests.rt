@@ -3,12 +3,12 @@ ghost use Rattle.std.specs.Prelude.{◌≡◌, ◌⊎◌, [], ◌∷◌, None, S
 ghost use Rattle.serde_json.specs.View.{items_view, view};
 ghost use Rattle.vp_json.specs.Keys.{has_keys};
 ghost use Rattle.vp_policy.specs.File.{each_of};
-ghost use Rattle.vp_wire.specs.Lines.{access_at, query_of_op, close_request, compare_query, digits_query, format_at, format_of, free_query, from_at, get_query, get_str_query, grant_of_words, grant_request, handle_query, iterate_query, meaning_of, number_at, number_if, number_in, number_property, open_request, poll_query, put_query, race_query, races_query, request_of, request_of_op, run_query, text_property, time_at, time_query, unwatch_query, value_query, vector_query, watch_query, word_in, words_at, Asks, NotJson, NotRequest};
+ghost use Rattle.vp_wire.specs.Lines.{access_at, query_of_op, close_request, compare_query, digits_query, end_request, format_at, format_of, free_query, from_at, get_query, get_str_query, grant_of_words, grant_request, halt_request, handle_query, iterate_query, meaning_of, number_at, number_if, number_in, number_property, open_request, order_of_op, poll_query, put_query, query_request, race_query, races_query, request_of, request_of_op, run_query, shutdown_request, status_request, stop_query, stop_request, text_property, time_at, time_query, token_alone, unwatch_query, value_query, vector_query, watch_query, word_in, words_at, Asks, NotJson, NotRequest};
 
 use crate::error::WireError;
 use serde_json::Value;
 use std::alloc::{AllocError, Global};
-use vp_answer::{Call, GrantChange, Query, Request, ValueFormat};
+use vp_answer::{Call, EndOrder, GrantChange, HaltOrder, Query, Request, ValueFormat};
 use vp_elab::Kind;
 use vp_json::{ReadError, has_keys, number, read, text};
 use vp_policy::Access;
@@ -113,6 +113,65 @@ fn grant_request(alloc: Global, value: &Value) -> Result<Option<Request>, AllocE
     ) {
         (Some(envelope), Some(access)) => grant_change(alloc, token, user, envelope, access),
         _ => Ok(None),
+    }
+}
+
+/// The request to end a user's sessions.
+fn end_request(alloc: Global, value: &Value) -> Result<Option<Request>, AllocError>
+    ensures { IfOk result (λ r. r ≡ end_request (view value.now)) }
+{
+    if !has_request_keys(value, ["token", "user"].as_slice()) {
+        return Ok(None);
+    }
+    match (text(value, "token"), text(value, "user")) {
+        (Some(token), Some(user)) => Ok(Some(Request::End(EndOrder {
+            token: Text::copy(alloc, token)?,
+            user: Text::copy(alloc, user)?,
+        }))),
+        _ => Ok(None),
+    }
+}
+
+/// The token of an operator who gives nothing else.
+fn token_alone(alloc: Global, value: &Value) -> Result<Option<Text>, AllocError>
+    ensures { IfOk result (λ t. t ≡ token_alone (view value.now)) }
+{
+    if !has_request_keys(value, ["token"].as_slice()) {
+        return Ok(None);
+    }
+    match text(value, "token") {
+        Some(token) => Ok(Some(Text::copy(alloc, token)?)),
+        None => Ok(None),
+    }
+}
+
+/// An operator's request to let the design stand still.
+fn halt_request(alloc: Global, value: &Value) -> Result<Option<Request>, AllocError>
+    ensures { IfOk result (λ r. r ≡ halt_request (view value.now)) }
+{
+    match token_alone(alloc, value)? {
+        Some(token) => Ok(Some(Request::Halt(HaltOrder { token }))),
+        None => Ok(None),
+    }
+}
+
+/// An operator's request of how the server stands.
+fn status_request(alloc: Global, value: &Value) -> Result<Option<Request>, AllocError>
+    ensures { IfOk result (λ r. r ≡ status_request (view value.now)) }
+{
+    match token_alone(alloc, value)? {
+        Some(token) => Ok(Some(Request::Status { token })),
+        None => Ok(None),
+    }
+}
+
+/// An operator's request to end the server.
+fn shutdown_request(alloc: Global, value: &Value) -> Result<Option<Request>, AllocError>
+    ensures { IfOk result (λ r. r ≡ shutdown_request (view value.now)) }
+{
+    match token_alone(alloc, value)? {
+        Some(token) => Ok(Some(Request::Shutdown { token })),
+        None => Ok(None),
     }
 }
 
@@ -446,6 +505,17 @@ fn run_query(value: &Value) -> Option<Query>
     }
 }
 
+/// The query to let the design stand still.
+fn stop_query(value: &Value) -> Option<Query>
+    ensures { result ≡ stop_query (view value.now) }
+{
+    if has_request_keys(value, [].as_slice()) {
+        Some(Query::Stop)
+    } else {
+        None
+    }
+}
+
 /// The query of the time.
 fn time_query(value: &Value) -> Option<Query>
     ensures { result ≡ time_query (view value.now) }
@@ -481,6 +551,41 @@ fn query_of_op(alloc: Global, op: &str, value: &Value) -> Result<Option<Query>, 
     }
 }
 
+/// A query as a request, if it is one.
+fn query_request(query: Option<Query>) -> Option<Request>
+    ensures { result ≡ query_request query }
+{
+    match query {
+        Some(query) => Some(Request::Call(Call::Query(query))),
+        None => None,
+    }
+}
+
+/// The request to let the design stand still: an operator's where a token is given, else a session's.
+fn stop_request(alloc: Global, value: &Value) -> Result<Option<Request>, AllocError>
+    ensures { IfOk result (λ r. r ≡ stop_request (view value.now)) }
+{
+    if value.get("token").is_some() {
+        halt_request(alloc, value)
+    } else {
+        Ok(query_request(stop_query(value)))
+    }
+}
+
+/// The request of an op that an operator asks, or a session that is open.
+fn order_of_op(alloc: Global, op: &str, value: &Value) -> Result<Option<Request>, AllocError>
+    ensures { IfOk result (λ r. r ≡ order_of_op op.now (view value.now)) }
+{
+    match op {
+        "grant" => grant_request(alloc, value),
+        "end" => end_request(alloc, value),
+        "stop" => stop_request(alloc, value),
+        "status" => status_request(alloc, value),
+        "shutdown" => shutdown_request(alloc, value),
+        _ => Ok(query_request(query_of_op(alloc, op, value)?)),
+    }
+}
+
 /// The request of an op (docs/FORMATS.md, "Lines").
 fn request_of_op(alloc: Global, op: &str, value: &Value) -> Result<Option<Request>, AllocError>
     ensures { IfOk result (λ r. r ≡ request_of_op op.now (view value.now)) }
@@ -488,11 +593,7 @@ fn request_of_op(alloc: Global, op: &str, value: &Value) -> Result<Option<Reques
     match op {
         "open" => open_request(alloc, value),
         "close" => Ok(close_request(value)),
-        "grant" => grant_request(alloc, value),
-        _ => match query_of_op(alloc, op, value)? {
-            Some(query) => Ok(Some(Request::Call(Call::Query(query)))),
-            None => Ok(None),
-        },
+        _ => order_of_op(alloc, op, value),
     }
 }
 

@@ -24,7 +24,7 @@ use Rattle.vp_answer.specs.declared.reply.Reply.TheVariants as reply
 use Rattle.vp_answer.specs.Answers.{Response, respond}
 use Rattle.vp_answer.specs.Given.{IsGiven, put_shown}
 use Rattle.vp_world.specs.Given.{Gives, observer_in}
-use Rattle.vp_world.specs.History.{asked, asked_at, asked_in, change_of, changed_by, changed_in, noticed, outcome_of_put, raised, segments_of_put, state_asked, stepped, with_state}
+use Rattle.vp_world.specs.History.{asked, asked_at, asked_in, change_of, changed_by, changed_in, noticed, outcome_of_put, goal_after, segments_of_put, state_asked, stepped, with_state}
 use Rattle.vp_world.specs.Shown.{shown}
 use Rattle.vp_answer.specs.laws.Puts.{put_only}
 use Rattle.vp_answer.proofs.Sessions.{session_with, with_name_of}
@@ -144,7 +144,7 @@ module _
 
     pub state_given :
         (run' : Recorded) (new : OpenSessionState) (told : List OpenSessionState) (goal' : Option ℕ) (a : AnswerWithChange) → Gives due run run' new.session_state a → new.id ≡ session.id
-        → goal' ≡ raised goal a.goal → told ≡ noticed a.change run'.simulation.time (slice_set sessions index new)
+        → goal' ≡ goal_after goal a.goal → told ≡ noticed a.change run'.simulation.time (slice_set sessions index new)
         → shown run' book.races first policy limits told opens goal' ≡ with_state w (asked_at w.state (Some index) r)
     state_given run' new told goal' a given same_id raises tells =
         let next = run'.simulation in
@@ -157,7 +157,7 @@ module _
         ∙ ap (λ (s : Segments). with_run (between new goal') run.simulation.design next s (noticed a.change next.time (with_session_state new goal').sessions)) given.segments
         ∙ ap (following new goal') (sym given.put)
         ∙ ap (λ s. following s goal' (outcome_of_put run.simulation due.put)) (with_name_of new session due.session_state same_id given.session_state)
-        ∙ ap (λ goal'. following after goal' (outcome_of_put run.simulation due.put)) (raises ∙ ap (raised goal) given.goal)
+        ∙ ap (λ goal'. following after goal' (outcome_of_put run.simulation due.put)) (raises ∙ ap (goal_after goal) given.goal)
         ∙ ap (λ there. with_state old (state_asked old.state index there r)) (sym found)
         ∙ ap (λ v. with_state v (asked_at v.state (Some index) r)) is
 

@@ -13,7 +13,7 @@ use Rattle.vp_world.specs.declared.event.Event.{Event}
 use Rattle.vp_world.specs.declared.event.Event.TheVariants as event
 use Rattle.vp_answer.specs.declared.query.Query.{Query}
 use Rattle.vp_world.specs.Entries.{Entry}
-use Rattle.vp_world.specs.History.{after, asked_at, closed_at, granted_to, opened_by, outcome_of_put, raised, response_of, segments_of_put, state_asked, state_after, stepped}
+use Rattle.vp_world.specs.History.{after, asked_at, closed_at, ended_for, granted_to, opened_by, outcome_of_put, goal_after, response_of, segments_of_put, state_asked, state_after, stepped}
 use Rattle.vp_world.specs.Worlds.{Opening, State, start}
 use Rattle.vp_answer.specs.OpenSessions.{OpenSessionState, index_of}
 
@@ -45,7 +45,7 @@ session_closes s index None r = omega arith
 session_closes s index (Some session) r =
     let given = response_of s session.session_state r in
     outcome_closes
-    (record s { sessions = slice_set s.sessions index (record session { session_state = given.session_state }); goal = raised s.goal given.goal })
+    (record s { sessions = slice_set s.sessions index (record session { session_state = given.session_state }); goal = goal_after s.goal given.goal })
     (segments_of_put s.segments given.put) (outcome_of_put s.run given.put) (put_closes s.segments given.put)
 
 -- by a query
@@ -68,6 +68,11 @@ granting_closes : (s : State) (change : GrantChange) (user : Option ℕ) → (le
 granting_closes s change None = omega arith
 granting_closes s change (Some u) = omega arith
 
+-- by an end of a user's sessions
+ending_closes : (s : State) (user : Option ℕ) → (let next : State = option_map_or (ended_for s) user s in ClosesOne s.segments next.segments)
+ending_closes s None = omega arith
+ending_closes s (Some u) = omega arith
+
 -- by a job
 job_closes : (old : Segments) (job : Option Run) → ClosesOne old (option_map_or (with_job old) job old)
 job_closes old None = omega arith
@@ -79,6 +84,8 @@ event_closes opening s (event.Open name token) = opening_closes s (login_of s.po
 event_closes opening s (event.Ask id query) = query_closes s (index_of s.sessions id) query
 event_closes opening s (event.Close id) = closing_closes s (index_of s.sessions id)
 event_closes opening s (event.Grant change) = granting_closes s change (user_of s.policy.members change.user)
+event_closes opening s (event.End order) = ending_closes s (user_of s.policy.members order.user)
+event_closes opening s (event.Halt order) = omega arith
 event_closes opening s (event.Step k) = outcome_closes s (with_step s.segments k) (sim.step s.run k) (step_closes s.segments k)
 event_closes opening s event.Advance = outcome_closes s (with_anew s.segments) (sim.advance s.run) (λ next. omega arith)
 event_closes opening s event.TakeJob = job_closes s.segments (next_job s.segments)

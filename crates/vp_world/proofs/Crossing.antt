@@ -7,7 +7,9 @@ use Rattle.vp_history.proofs.history.History.TheSendSync as history
 use Rattle.vp_race.proofs.Crossing.{book_send, booked_send, booked_sync, recording_send}
 use Rattle.vp_vpi.proofs.session.Session.TheSendSync as session
 use Rattle.vp_answer.proofs.reply.Reply.TheSendSync as reply
+use Rattle.vp_answer.proofs.request.EndOrder.TheSendSync as end
 use Rattle.vp_answer.proofs.request.GrantChange.TheSendSync as grant
+use Rattle.vp_answer.proofs.request.HaltOrder.TheSendSync as halt
 use Rattle.vp_world.proofs.entry.Asked.TheSendSync as asked
 use Rattle.vp_world.proofs.entry.Login.TheSendSync as login
 use Rattle.vp_world.specs.contracts.entry.Entry as Entry
@@ -28,16 +30,22 @@ happening_send =
             (
               (search (grant.the_send, grant.the_sync, sendable, crosses) depth 60 fits 5000, tt),
               (
-                (search sendable, tt),
+                (search (end.the_send, end.the_sync, sendable, crosses) depth 60 fits 5000, tt),
                 (
-                  (search sendable, (change.the_field_send, tt)),
+                  (search (halt.the_send, halt.the_sync, sendable, crosses) depth 60 fits 5000, tt),
                   (
-                    tt,
+                    (search sendable, tt),
                     (
-                      (search sendable, tt),
+                      (search sendable, (change.the_field_send, tt)),
                       (
-                        (search (booked_send, booked_sync, sendable, crosses) depth 60 fits 5000, tt),
                         tt,
+                        (
+                          (search sendable, tt),
+                          (
+                            (search (booked_send, booked_sync, sendable, crosses) depth 60 fits 5000, tt),
+                            tt,
+                          ),
+                        ),
                       ),
                     ),
                   ),

@@ -13,7 +13,7 @@ use Rattle.vp_world.specs.declared.error.WorldError.{WorldError}
 use Rattle.vp_answer.specs.declared.reply.Reply.{Reply}
 use Rattle.vp_world.specs.Entries.{Entry}
 use Rattle.vp_world.specs.Events.{IsWellFormed}
-use Rattle.vp_world.specs.History.{Applies, IsLegal, Keeps, after, answer, changed, entry_of, is_full, refusal_after, refusal_of, refusal_of_grantee, refusal_of_open, refusal_of_session, refused_by, state_after, with_entry}
+use Rattle.vp_world.specs.History.{Applies, IsLegal, Keeps, after, answer, changed, entry_of, is_full, refusal_after, refusal_of, refusal_of_grantee, refusal_of_open, refusal_of_session, refusal_of_user, refused_by, state_after, with_entry}
 use Rattle.vp_world.specs.Worlds.{WorldLog, Opening, WorldState, State, start}
 
 -- a left fold of one item more
@@ -91,6 +91,18 @@ full_refuses opening s (event.Grant change) h = by_token (is_operator s.policy c
 
   by_token : (b : Bool) → (if b then refusal_of_grantee true s.policy change.envelope (user_of s.policy.members change.user) else Some world_error.BadOperator) ≡ None → ⊥
   by_token true f = by_user (user_of s.policy.members change.user) f
+  by_token false f = absurd (cc)
+full_refuses opening s (event.End order) h = by_token (is_operator s.policy order.token) h where
+  by_user : (o : Option ℕ) → refusal_of_user true o ≡ None → ⊥
+  by_user None f = absurd (cc)
+  by_user (Some u) f = absurd (cc)
+
+  by_token : (b : Bool) → (if b then refusal_of_user true (user_of s.policy.members order.user) else Some world_error.BadOperator) ≡ None → ⊥
+  by_token true f = by_user (user_of s.policy.members order.user) f
+  by_token false f = absurd (cc)
+full_refuses opening s (event.Halt order) h = by_token (is_operator s.policy order.token) h where
+  by_token : (b : Bool) → (if b then Some world_error.LogFull else Some world_error.BadOperator) ≡ None → ⊥
+  by_token true f = absurd (cc)
   by_token false f = absurd (cc)
 full_refuses opening s (event.Step k) h = absurd (cc)
 full_refuses opening s event.Advance h = absurd (cc)

@@ -11,7 +11,7 @@ use Rattle.vp_policy.specs.Users.{member_at}
 use Rattle.vp_vpi.specs.Observers.{is_watch_denied}
 use Rattle.vp_vpi.specs.SessionStates.{SessionState, retired}
 use Rattle.vp_expr.specs.declared.change.Change.{Change}
-use Rattle.vp_answer.specs.OpenSessions.{OpenSessionState, notified_session, retired_for}
+use Rattle.vp_answer.specs.OpenSessions.{OpenSessionState, is_of, notified_session, retired_for, without_user}
 use Rattle.vp_answer.specs.laws.Tests.{all_implied, all_index, all_kept, all_mapped, all_removed, all_set, both, both_first, both_second}
 use Rattle.vp_world.specs.Marks.{all_marked, are_marked, is_marked, is_session_marked, is_watched, may_be_watched}
 
@@ -81,6 +81,10 @@ sessions_marked watched object mark (s ∷ sessions) marked says =
 -- one less
 pub marked_without : (watched : List Bool) (sessions : List OpenSessionState) (index : ℕ) → all_marked watched sessions ≡ true → all_marked watched (remove sessions index) ≡ true
 marked_without watched sessions index = all_removed (is_session_marked watched) sessions index
+
+-- those of a user less
+pub marked_others : (watched : List Bool) (sessions : List OpenSessionState) (user : ℕ) → all_marked watched sessions ≡ true → all_marked watched (without_user user sessions) ≡ true
+marked_others watched sessions user = all_kept (is_session_marked watched) (λ s. not (is_of user s)) sessions
 
 -- another at an index
 pub marked_set : (watched : List Bool) (sessions : List OpenSessionState) (index : ℕ) (s : OpenSessionState) → all_marked watched sessions ≡ true → is_session_marked watched s ≡ true → all_marked watched (slice_set sessions index s) ≡ true

@@ -45,4 +45,5 @@ respond_keeps watched observation session_state query.Poll other marked = marked
 respond_keeps watched observation session_state (query.Races from) other marked = marked
 respond_keeps watched observation session_state (query.Race number) other marked = by_answer watched session_state _ (race_of observation number) marked (λ x. marked)
 respond_keeps watched observation session_state (query.Run until) other marked = marked
+respond_keeps watched observation session_state query.Stop other marked = marked
 respond_keeps watched observation session_state query.Time other marked = marked

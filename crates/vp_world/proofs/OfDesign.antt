@@ -18,7 +18,7 @@ use Rattle.vp_answer.specs.declared.request.GrantChange.{GrantChange}
 use Rattle.vp_world.specs.declared.event.Event.{Event}
 use Rattle.vp_world.specs.declared.event.Event.TheVariants as event
 use Rattle.vp_world.specs.Entries.{Entry}
-use Rattle.vp_world.specs.History.{after, asked_at, closed_at, granted_to, opened_by, outcome_of_put, response_of, segments_of_put, state_after, state_asked, stepped}
+use Rattle.vp_world.specs.History.{after, asked_at, closed_at, ended_for, granted_to, opened_by, outcome_of_put, response_of, segments_of_put, state_after, state_asked, stepped}
 use Rattle.vp_world.specs.Worlds.{Opening, State, start}
 use Rattle.vp_world.proofs.Designs.{found}
 
@@ -86,6 +86,10 @@ granted_of : (d : Elaborated) (s : State) (change : GrantChange) (o : Option ℕ
 granted_of d s change None h = h
 granted_of d s change (Some u) h = h
 
+ended_of : (d : Elaborated) (s : State) (o : Option ℕ) → IsOf d s → IsOf d (option_map_or (ended_for s) o s)
+ended_of d s None h = h
+ended_of d s (Some u) h = h
+
 job_of : (d : Elaborated) (s : State) (o : Option Run) → IsOf d s → Own d s.run (option_map_or (with_job s.segments) o s.segments)
 job_of d s None h = h
 job_of d s (Some run) h = record { run_of = h.run_of; opened = h.opened; kept = h.kept }
@@ -95,6 +99,8 @@ after_of opening d s (event.Open name token) h = opened_of d s (login_of s.polic
 after_of opening d s (event.Ask id query) h = asked_at_of d s (index_of s.sessions id) query h
 after_of opening d s (event.Close id) h = closed_of d s (index_of s.sessions id) h
 after_of opening d s (event.Grant change) h = granted_of d s change (user_of s.policy.members change.user) h
+after_of opening d s (event.End order) h = ended_of d s (user_of s.policy.members order.user) h
+after_of opening d s (event.Halt order) h = h
 after_of opening d s (event.Step k) h =
     goes_on d s (with_step s.segments k) (sim.step s.run k) (step_leaves s.run k) (λ next same. step_more d s.run next s.segments k h same) h
 after_of opening d s event.Advance h =

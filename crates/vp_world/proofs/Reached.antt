@@ -17,7 +17,7 @@ use Rattle.vp_world.specs.declared.event.Event.TheVariants as event
 use Rattle.vp_answer.specs.declared.query.Query.{Query}
 use Rattle.vp_world.specs.Entries.{Entry}
 use Rattle.vp_world.specs.Events.{IsWellFormed}
-use Rattle.vp_world.specs.History.{IsLegal, IsReached, after, asked_at, book_refusal, closed_at, granted_to, opened_by, refusal_after, refusal_of, refusal_of_booking, state_asked, state_after, stepped}
+use Rattle.vp_world.specs.History.{IsLegal, IsReached, after, asked_at, book_refusal, closed_at, ended_for, granted_to, opened_by, refusal_after, refusal_of, refusal_of_booking, state_asked, state_after, stepped}
 use Rattle.vp_world.specs.Worlds.{Opening, State}
 use Rattle.vp_answer.specs.OpenSessions.{OpenSessionState, index_of}
 use Rattle.vp_race.proofs.Carrying.{carried}
@@ -37,6 +37,10 @@ opened_book s (Some u) = refl
 granted_book : (s : State) (change : GrantChange) (o : Option ℕ) → (option_map_or (granted_to s change) o s).book ≡ s.book
 granted_book s change None = refl
 granted_book s change (Some u) = refl
+
+ended_book : (s : State) (o : Option ℕ) → (option_map_or (ended_for s) o s).book ≡ s.book
+ended_book s None = refl
+ended_book s (Some u) = refl
 
 session_book : (s : State) (index : ℕ) (o : Option OpenSessionState) (r : Query) → (state_asked s index o r).book ≡ s.book
 session_book s index None r = refl
@@ -102,6 +106,10 @@ after_event opening log e (event.Close id) formed none all =
 after_event opening log e (event.Grant change) formed none all =
     let s = state_after opening log in
     subst (All (IsReached opening (log ++ e ∷ []))) (sym (granted_book s change (user_of s.policy.members change.user))) (all_stay opening log e s.book all)
+after_event opening log e (event.End order) formed none all =
+    let s = state_after opening log in
+    subst (All (IsReached opening (log ++ e ∷ []))) (sym (ended_book s (user_of s.policy.members order.user))) (all_stay opening log e s.book all)
+after_event opening log e (event.Halt order) formed none all = all_stay opening log e (state_after opening log).book all
 after_event opening log e (event.Step k) formed none all =
     let s = state_after opening log in
     subst (All (IsReached opening (log ++ e ∷ []))) (sym (stepped_book s _ (sim.step s.run k))) (all_stay opening log e s.book all)

@@ -11,9 +11,9 @@ use Rattle.vp_sim.specs.States as sim
 use Rattle.vp_vpi.specs.SessionStates.{new_session_state}
 use Rattle.vp_answer.specs.declared.request.GrantChange.{GrantChange}
 use Rattle.vp_world.specs.declared.limits.Limits.{Limits}
-use Rattle.vp_world.specs.History.{granted_to, next_session, opened_by, under_policy, with_state}
+use Rattle.vp_world.specs.History.{ended_for, granted_to, halted, next_session, opened_by, under_policy, with_state}
 use Rattle.vp_world.specs.Shown.{shown}
-use Rattle.vp_answer.specs.OpenSessions.{OpenSessionState, retired_for}
+use Rattle.vp_answer.specs.OpenSessions.{OpenSessionState, retired_for, without_user}
 use Rattle.vp_world.specs.Worlds.{WorldState, State, start}
 use Rattle.vp_answer.proofs.Lists.{replicate_is}
 
@@ -58,6 +58,22 @@ pub closed_shown :
 closed_shown r book first policy limits sessions left opens goal index w is taken =
     ap (λ s. shown r book first policy limits s opens goal) taken
     ∙ ap (λ (v : WorldState). with_sessions v (remove v.state.sessions index) v.state.opens) is
+
+-- the sessions of a user end
+pub ended_shown :
+    (r : Recorded) (book : List FindingState) (first policy : PolicyState) (limits : Limits) (sessions left : List OpenSessionState) (opens : List ℕ) (goal : Option ℕ) (user : ℕ) (w : WorldState)
+    → shown r book first policy limits sessions opens goal ≡ w → left ≡ without_user user sessions
+    → shown r book first policy limits left opens goal ≡ with_state w (ended_for w.state user)
+ended_shown r book first policy limits sessions left opens goal user w is taken =
+    ap (λ s. shown r book first policy limits s opens goal) taken
+    ∙ ap (λ (v : WorldState). with_state v (ended_for v.state user)) is
+
+-- the goal ends
+pub halted_shown :
+    (r : Recorded) (book : List FindingState) (first policy : PolicyState) (limits : Limits) (sessions : List OpenSessionState) (opens : List ℕ) (goal : Option ℕ) (w : WorldState)
+    → shown r book first policy limits sessions opens goal ≡ w
+    → shown r book first policy limits sessions opens None ≡ with_state w (halted w.state)
+halted_shown r book first policy limits sessions opens goal w is = ap (λ (v : WorldState). with_state v (halted v.state)) is
 
 -- a session is opened
 pub opened_shown :

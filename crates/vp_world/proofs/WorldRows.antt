@@ -111,6 +111,7 @@ ann = record {
   open_set = with_right right.Read (with_right right.List nothing);
   grants = [];
   run = true;
+  sessions = 64;
 }
 
 abbrev opening : Opening
@@ -274,6 +275,7 @@ bob = record {
   open_set = with_right right.Put (with_right right.Watch (with_right right.List nothing));
   grants = [];
   run = false;
+  sessions = 64;
 }
 
 abbrev shared : Opening

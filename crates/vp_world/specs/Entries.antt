@@ -26,11 +26,13 @@ session_in (event.Ask id r) answer = Some id
 session_in (event.Close id) answer = Some id
 session_in e answer = None
 
--- the bytes of the texts of an event: of a login, of what is asked, and of a change of a grant (profile)
+-- the bytes of the texts of an event: of a login, of what is asked, and of an operator's order (profile)
 abbrev pub event_bytes : Event → ℕ
 event_bytes (event.Open user token) = length user + length token
 event_bytes (event.Ask id query) = query_bytes query
 event_bytes (event.Grant change) = length change.token + length change.user
+event_bytes (event.End order) = length order.token + length order.user
+event_bytes (event.Halt order) = length order.token
 event_bytes e = 0
 
 -- of an entry, with its reply
@@ -50,6 +52,8 @@ event_in (happening.Ask asked reply) = event.Ask (arc_value asked).session (arc_
 event_in (happening.Put asked change) = event.Ask (arc_value asked).session (arc_value asked).query
 event_in (happening.Close session) = event.Close session
 event_in (happening.Grant change) = event.Grant (arc_value change)
+event_in (happening.End order) = event.End (arc_value order)
+event_in (happening.Halt order) = event.Halt (arc_value order)
 event_in (happening.Step k) = event.Step k
 event_in (happening.StepWithChange k change) = event.Step k
 event_in happening.Advance = event.Advance
@@ -63,6 +67,8 @@ reply_in (happening.Ask asked reply) = reply
 reply_in (happening.Put asked change) = reply.Done
 reply_in (happening.Close session) = reply.Done
 reply_in (happening.Grant change) = reply.Done
+reply_in (happening.End order) = reply.Done
+reply_in (happening.Halt order) = reply.Done
 reply_in (happening.Step k) = reply.Done
 reply_in (happening.StepWithChange k change) = reply.Done
 reply_in happening.Advance = reply.Done
@@ -76,6 +82,8 @@ change_in (happening.Ask asked reply) = None
 change_in (happening.Put asked change) = Some change
 change_in (happening.Close session) = None
 change_in (happening.Grant change) = None
+change_in (happening.End order) = None
+change_in (happening.Halt order) = None
 change_in (happening.Step k) = None
 change_in (happening.StepWithChange k change) = Some change
 change_in happening.Advance = None

@@ -17,7 +17,7 @@ use Rattle.vp_world.specs.History.{outcome_of_put, segments_of_put}
 abbrev pub observer_in : Recorded → BookState → (policy : PolicyState) → (user : ℕ) → Observer
 observer_in r book policy user = observer_with r.simulation (member_at policy.members user) book.races
 
--- an answer gives what comes of a query: its reply, reported and kept, the goal that it sets, and what its put does to the simulation and
+-- an answer gives what comes of a query: its reply, reported and kept, what it does to the goal, and what its put does to the simulation and
 -- changes, which only a query that is done does; and this is the session after it
 pub record Gives (given : Response) (old new : Recorded) (session : SessionState) (a : AnswerWithChange) : Type 0 where
   pub gives_reply : a.reply ≡ given.reply

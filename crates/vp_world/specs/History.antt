@@ -19,6 +19,8 @@ use Rattle.vp_vpi.specs.Observers.{Observer}
 use Rattle.vp_world.specs.Races.{observer_with}
 use Rattle.vp_vpi.specs.SessionStates.{SessionState, new_session_state}
 use Rattle.vp_world.specs.Entries.{Entry, bytes_of}
+use Rattle.vp_answer.specs.declared.goal.GoalChange.{GoalChange}
+use Rattle.vp_answer.specs.declared.goal.GoalChange.TheVariants.{Ends, RisesTo, Stays}
 use Rattle.vp_answer.specs.declared.request.GrantChange.{GrantChange}
 use Rattle.vp_answer.specs.declared.request.SessionId.{SessionId}
 use Rattle.vp_answer.specs.declared.query.Query.{Query}
@@ -32,15 +34,19 @@ use Rattle.vp_answer.specs.declared.reply.Reply.{Reply}
 use Rattle.vp_answer.specs.declared.reply.Reply.TheVariants as reply
 use Rattle.vp_world.specs.Events.{IsWellFormed}
 use Rattle.vp_world.specs.Worlds.{WorldLog, Opening, WorldState, State, start}
-use Rattle.vp_answer.specs.OpenSessions.{OpenSessionState, index_of, notified_session, retired_for}
+use Rattle.vp_answer.specs.OpenSessions.{OpenSessionState, index_of, notified_session, retired_for, sessions_of, without_user}
 use Rattle.vp_answer.specs.Answers.{Response, respond}
 
 -- ---- refusals
 
--- there is no room for a session of a user: as many are open as there may be, or no count of 64 bits is left (profile)
+-- a user has as many sessions open as he may at once (profile)
+abbrev pub is_share_used : State → ℕ → Bool
+is_share_used s u = nat_le (member_at s.policy.members u).sessions (sessions_of u s.sessions)
+
+-- there is no room for a session of a user: as many are open as there may be, or as many of his, or no count of 64 bits is left (profile)
 abbrev pub is_full : Opening → State → ℕ → Bool
 is_full opening s u =
-    nat_le opening.limits.sessions (length s.sessions) || nat_le 18446744073709551615 (slice_index s.opens u)
+    (nat_le opening.limits.sessions (length s.sessions) || is_share_used s u) || nat_le 18446744073709551615 (slice_index s.opens u)
 
 -- the log is full (profile)
 abbrev pub refusal_of_log : Bool → Option WorldError
@@ -63,12 +69,19 @@ refusal_of_grantee full policy envelope None = Some error.NoSuchUser
 refusal_of_grantee full policy envelope (Some user) =
     if nat_lt (length policy.tree.authors) envelope then Some error.NoSuchEnvelope else refusal_of_log full
 
--- why a change of a grant is refused: its token is not the operator's, then the reasons above (profile)
+-- why an end of a user's sessions is refused, by the number of the user who was found under its name: there is none, then a full log (profile)
+abbrev pub refusal_of_user : Bool → Option ℕ → Option WorldError
+refusal_of_user full None = Some error.NoSuchUser
+refusal_of_user full (Some user) = refusal_of_log full
+
+-- why an order is refused: its token is not the operator's, then the reasons of what it orders (profile)
+abbrev pub refusal_of_order : PolicyState → (token : List ℕ) → Option WorldError → Option WorldError
+refusal_of_order policy token refusal = if is_operator policy token then refusal else Some error.BadOperator
+
+-- why a change of a grant is refused (profile)
 abbrev pub refusal_of_grant : Bool → PolicyState → GrantChange → Option WorldError
 refusal_of_grant full policy change =
-    if is_operator policy change.token
-    then refusal_of_grantee full policy change.envelope (user_of policy.members change.user)
-    else Some error.BadOperator
+    refusal_of_order policy change.token (refusal_of_grantee full policy change.envelope (user_of policy.members change.user))
 
 -- why the simulation refuses a step, if it does
 abbrev pub refusal_of_outcome : sim.Outcome → Option WorldError
@@ -124,6 +137,8 @@ refusal_of opening full s (event.Open name token) = refusal_of_open opening full
 refusal_of opening full s (event.Ask id query) = refusal_of_session full (index_of s.sessions id)
 refusal_of opening full s (event.Close id) = refusal_of_session full (index_of s.sessions id)
 refusal_of opening full s (event.Grant change) = refusal_of_grant full s.policy change
+refusal_of opening full s (event.End order) = refusal_of_order s.policy order.token (refusal_of_user full (user_of s.policy.members order.user))
+refusal_of opening full s (event.Halt order) = refusal_of_order s.policy order.token (refusal_of_log full)
 refusal_of opening full s (event.Step k) =
     refusal_of_step (full || is_slot_full s) (is_past_goal s.goal s.run.time) (sim.step s.run k)
 refusal_of opening full s event.Advance =
@@ -161,6 +176,8 @@ answer opening s (event.Open name token) =
 answer opening s (event.Ask id query) = asked s (session_of s.sessions id) query
 answer opening s (event.Close id) = reply.Done
 answer opening s (event.Grant change) = reply.Done
+answer opening s (event.End order) = reply.Done
+answer opening s (event.Halt order) = reply.Done
 answer opening s (event.Step k) = reply.Done
 answer opening s event.Advance = reply.Done
 answer opening s event.TakeJob = option_map_or (λ run. reply.Job run.number) (next_job s.segments) (reply.Error refusal.NoJob)
@@ -192,6 +209,8 @@ changed s (event.Open name token) = None
 changed s (event.Ask id query) = changed_by s (session_of s.sessions id) query
 changed s (event.Close id) = None
 changed s (event.Grant change) = None
+changed s (event.End order) = None
+changed s (event.Halt order) = None
 changed s (event.Step k) = change_of (sim.step s.run k)
 changed s event.Advance = change_of (sim.advance s.run)
 changed s event.TakeJob = None
@@ -211,10 +230,11 @@ abbrev pub later : Option ℕ → ℕ → ℕ
 later None until = until
 later (Some goal) until = max goal until
 
--- a goal, raised to a time, if there is one (profile)
-abbrev pub raised : Option ℕ → Option ℕ → Option ℕ
-raised goal None = goal
-raised goal (Some until) = Some (later goal until)
+-- a goal after what a query does to it: it stays, it rises to a time, or there is none any more (profile)
+abbrev pub goal_after : Option ℕ → GoalChange → Option ℕ
+goal_after goal Stays = goal
+goal_after goal (RisesTo until) = Some (later goal until)
+goal_after goal Ends = None
 
 -- the open sessions after a change at a time: each of them is notified, whoever made it (profile)
 abbrev pub noticed : Option Change → (time : ℕ) → List OpenSessionState → List OpenSessionState
@@ -234,7 +254,7 @@ stepped s segments (sim.Refuses e) = s
 abbrev pub with_response : State → ℕ → OpenSessionState → Response → State
 with_response s index session given =
     stepped
-    (record s { sessions = slice_set s.sessions index (record session { session_state = given.session_state }); goal = raised s.goal given.goal })
+    (record s { sessions = slice_set s.sessions index (record session { session_state = given.session_state }); goal = goal_after s.goal given.goal })
     (segments_of_put s.segments given.put) (outcome_of_put s.run given.put)
 
 -- the state after a query of the session at an index
@@ -260,6 +280,14 @@ under_policy s user policy = record s { policy = policy; sessions = map (retired
 abbrev pub granted_to : State → GrantChange → (user : ℕ) → State
 granted_to s change user = under_policy s user (regranted s.policy user change.envelope change.access)
 
+-- the state in which the sessions of a user have ended, as by a close of each (profile)
+abbrev pub ended_for : State → (user : ℕ) → State
+ended_for s user = record s { sessions = without_user user s.sessions }
+
+-- the state in which the simulation stands still until somebody asks for a run again (profile)
+abbrev pub halted : State → State
+halted s = record s { goal = None }
+
 -- the state after a job: the oldest kept segment that was not handed out is handed out
 abbrev pub with_job_taken : State → State
 with_job_taken s = record s { segments = option_map_or (with_job s.segments) (next_job s.segments) s.segments }
@@ -274,6 +302,8 @@ after opening s (event.Open name token) = option_map_or (opened_by s) (login_of 
 after opening s (event.Ask id query) = asked_at s (index_of s.sessions id) query
 after opening s (event.Close id) = closed_at s (index_of s.sessions id)
 after opening s (event.Grant change) = option_map_or (granted_to s change) (user_of s.policy.members change.user) s
+after opening s (event.End order) = option_map_or (ended_for s) (user_of s.policy.members order.user) s
+after opening s (event.Halt order) = halted s
 after opening s (event.Step k) = stepped s (with_step s.segments k) (sim.step s.run k)
 after opening s event.Advance = stepped s (with_anew s.segments) (sim.advance s.run)
 after opening s event.TakeJob = with_job_taken s
@@ -320,13 +350,13 @@ pub record Keeps (w : WorldState) (log : List Entry) : Type 0 where
 
 -- ---- a world, by its opening and its log
 
--- so many entries a log holds at most where a grant is accepted: the last are left to closes (profile)
-abbrev pub limit_of_grants : Limits → ℕ
-limit_of_grants limits = limits.log - limits.for_closes
+-- so many entries a log holds at most where an operator's order is accepted: the last are left to closes (profile)
+abbrev pub limit_of_operator : Limits → ℕ
+limit_of_operator limits = limits.log - limits.for_closes
 
 -- where a request of a user is accepted: those before them are left to the operator too (profile)
 abbrev pub limit_of_users : Limits → ℕ
-limit_of_users limits = limit_of_grants limits - limits.for_operator
+limit_of_users limits = limit_of_operator limits - limits.for_operator
 
 -- where an event of the simulation or of its searches is accepted: those before them are left to users too (profile)
 abbrev pub limit_of_simulation : Limits → ℕ
@@ -346,7 +376,9 @@ abbrev pub limit_for : Limits → Event → ℕ
 limit_for limits (event.Open name token) = limit_of_users limits
 limit_for limits (event.Ask id query) = limit_of_users limits
 limit_for limits (event.Close id) = limits.log
-limit_for limits (event.Grant change) = limit_of_grants limits
+limit_for limits (event.Grant change) = limit_of_operator limits
+limit_for limits (event.End order) = limit_of_operator limits
+limit_for limits (event.Halt order) = limit_of_operator limits
 limit_for limits (event.Step k) = limit_of_simulation limits
 limit_for limits event.Advance = limit_of_simulation limits
 limit_for limits event.TakeJob = limit_of_simulation limits
@@ -360,7 +392,8 @@ most_entries = 2 ^ 62
 abbrev pub is_full_of : (limit handed_out : ℕ) → List Entry → Bool
 is_full_of limit handed_out log = nat_le limit (length log - handed_out) || nat_le most_entries (length log)
 
--- so many bytes of texts a log holds at most where such an event is accepted: the simulation's have few, and a close is never refused by bytes
+-- so many bytes of texts a log holds at most where such an event is accepted: the simulation's have few, and what ends something, a close, an end
+-- of sessions or a halt, is never refused by bytes
 abbrev pub byte_limit_for : Limits → Event → Option ℕ
 byte_limit_for limits (event.Open name token) = limits.bytes
 byte_limit_for limits (event.Ask id query) = limits.bytes

@@ -15,5 +15,6 @@ pub mod Races
 pub mod History
 pub mod HiddenNames
 pub mod Shown
+pub mod Status
 pub mod Marks
 pub mod Given

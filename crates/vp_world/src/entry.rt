@@ -5,7 +5,7 @@ ghost use Rattle.vp_answer.specs.declared.reply.Reply.TheVariants as reply;
 
 use std::marker::Model;
 use std::sync::Arc;
-use vp_answer::{GrantChange, Query, Reply, SessionId};
+use vp_answer::{EndOrder, GrantChange, HaltOrder, Query, Reply, SessionId};
 use vp_expr::Change;
 use vp_race::BookedFinding;
 use vp_text::{Same, Shared, Text};
@@ -49,6 +49,14 @@ pub enum LoggedEvent {
     /// A user's grant for an envelope changed.
     Grant {
         change: Arc<GrantChange>,
+    },
+    /// A user's open sessions ended.
+    End {
+        order: Arc<EndOrder>,
+    },
+    /// The simulation stood still.
+    Halt {
+        order: Arc<HaltOrder>,
     },
     /// The simulation took the k-th of the events that a step could take, which changed nothing.
     Step {
@@ -126,6 +134,8 @@ impl LoggedEvent {
             }
             LoggedEvent::Put { asked, .. } => asked.query.bytes(),
             LoggedEvent::Grant { change } => both_bytes(&change.token, &change.user),
+            LoggedEvent::End { order } => both_bytes(&order.token, &order.user),
+            LoggedEvent::Halt { order } => order.token.as_str().len() as u64,
             _ => 0,
         }
     }
@@ -148,6 +158,8 @@ impl LoggedEvent {
             LoggedEvent::Put { .. }
             | LoggedEvent::Close { .. }
             | LoggedEvent::Grant { .. }
+            | LoggedEvent::End { .. }
+            | LoggedEvent::Halt { .. }
             | LoggedEvent::Step { .. }
             | LoggedEvent::StepWithChange { .. }
             | LoggedEvent::Advance

@@ -1,4 +1,4 @@
-use vp_answer::{GrantChange, Query, SessionId};
+use vp_answer::{EndOrder, GrantChange, HaltOrder, Query, SessionId};
 use vp_race::Finding;
 use vp_text::{Shared, Text};
 
@@ -13,6 +13,10 @@ pub enum Event {
     Close { session: SessionId },
     /// A user's grant for an envelope changes.
     Grant(GrantChange),
+    /// A user's open sessions end.
+    End(EndOrder),
+    /// The simulation stands still, until somebody asks for a run again.
+    Halt(HaltOrder),
     /// The simulation takes the k-th of the events that a step can take, from 0.
     Step(u32),
     /// The simulation goes on to the time of the next event.

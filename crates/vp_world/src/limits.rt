@@ -21,7 +21,7 @@ pub struct Limits {
 
 impl Limits {
     ghost use Rattle.std.specs.Prelude.{◌≡◌};
-    ghost use Rattle.vp_world.specs.History.{limit_of_grants, limit_of_simulation, limit_of_users};
+    ghost use Rattle.vp_world.specs.History.{limit_of_operator, limit_of_simulation, limit_of_users};
 
     /// The greatest limits, by which no entry is left to anybody, and bytes are not counted.
     pub const GREATEST: Limits = Limits {
@@ -37,9 +37,9 @@ impl Limits {
         sessions: 64,
     };
 
-    /// So many entries the log holds at most where a Grant is accepted.
-    pub(crate) fn limit_of_grants(&self) -> usize
-        ensures { result ≡ limit_of_grants self.now }
+    /// So many entries the log holds at most where an operator's order is accepted: a Grant, an End or a Halt.
+    pub(crate) fn limit_of_operator(&self) -> usize
+        ensures { result ≡ limit_of_operator self.now }
     {
         self.log.saturating_sub(self.for_closes)
     }
@@ -48,7 +48,7 @@ impl Limits {
     pub(crate) fn limit_of_users(&self) -> usize
         ensures { result ≡ limit_of_users self.now }
     {
-        self.limit_of_grants().saturating_sub(self.for_operator)
+        self.limit_of_operator().saturating_sub(self.for_operator)
     }
 
     /// So many entries the log holds at most where a Step, an Advance, a TakeJob or a Book is accepted.

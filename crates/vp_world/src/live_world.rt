@@ -1,33 +1,39 @@
-ghost use Rattle.std.specs.Prelude.{◌≡◌, ◌<◌, ◌≤◌, ◌+◌, ◌^◌, false, true, length, slice_index, slice_set, None, Some, option_copied, option_map, IfErr, IfOk, IfSome, IsOkUnless, OnErr, OnOk};
+ghost use Rattle.std.specs.Prelude.{◌≡◌, ◌<◌, ◌≤◌, ◌+◌, ◌^◌, false, true, is_some, length, map, slice_index, slice_set, None, Some, option_copied, option_map, IfErr, IfOk, IfSome, IsOkUnless, OnErr, OnOk};
 ghost use Rattle.std.specs.Arc.{arc_value};
 ghost use Rattle.vp_text.specs.Refusals.{Explains};
 ghost use Rattle.vp_policy.specs.PolicyState.{Fits};
 ghost use Rattle.vp_policy.specs.Users.{login_of, user_of};
-ghost use Rattle.vp_race.specs.Recording.{kept_of, next_job, with_anew, with_step};
+ghost use Rattle.vp_race.specs.Recording.{jobs_waiting, kept_of, next_job, with_anew, with_step};
 ghost use Rattle.vp_sim.specs.States as sim;
 ghost use Rattle.vp_sim.specs.declared.error.SimError.TheVariants as sim_error;
 ghost use Rattle.vp_world.specs.declared.event.Event.TheVariants as event;
 ghost use Rattle.vp_world.specs.declared.error.WorldError.TheVariants as world_error;
 ghost use Rattle.vp_answer.specs.declared.reply.Reply.TheVariants as reply;
-ghost use Rattle.vp_world.specs.History.{advance_refusal, asked_at, asked_in, book_refusal, change_of, changed_in, closed_at, going_round, granted_to, is_full, is_next_past_goal, is_past_goal, is_slot_full, later, next_session, opened_by, raised, refusal_in, refusal_of_job, refusal_of_log, refusal_of_outcome, refusal_of_session, refusal_of_step, step_refusal, stepped, with_booked, with_bytes, with_job_taken, with_last_for, with_state};
+ghost use Rattle.vp_world.specs.History.{advance_refusal, asked_at, asked_in, book_refusal, change_of, changed_in, closed_at, ended_for, goal_after, going_round, granted_to, halted, is_full, is_next_past_goal, is_past_goal, is_share_used, is_slot_full, later, next_session, opened_by, refusal_in, refusal_of_job, refusal_of_log, refusal_of_outcome, refusal_of_session, refusal_of_step, step_refusal, stepped, with_booked, with_bytes, with_job_taken, with_last_for, with_state};
 ghost use Rattle.vp_answer.specs.OpenSessions.{index_of};
+ghost use Rattle.vp_elab.specs.Tree.{below};
+ghost use Rattle.vp_policy.specs.Regrants.{is_operator};
+ghost use Rattle.vp_world.specs.Status.{user_sessions};
 ghost use Rattle.vp_world.specs.Worlds.{start};
 
 use crate::error::WorldError;
 use crate::limits::Limits;
 use crate::putting::{AnswerWithChange, answer_query};
 use crate::watching::{mark_asked, notify};
-use std::alloc::Global;
+use std::alloc::{AllocError, Global};
 use std::marker::Model;
 use std::snapshot::Snapshot;
 use std::sync::Arc;
-use vp_answer::{GrantChange, OpenSession, Query, SessionId, retire_sessions, session_index};
+use vp_answer::{
+    EndOrder, GoalChange, GrantChange, HaltOrder, OpenSession, Query, SessionId, UserSessions,
+    end_sessions, retire_sessions, session_count, session_index,
+};
 use vp_elab::{Design, ObjectId};
 use vp_expr::Change;
 use vp_policy::{Policy, UserId};
 use vp_race::{Book, BookedFinding, Finding, Recording, Segment};
 use vp_sim::{Checked, SimError};
-use vp_text::Shared;
+use vp_text::{Sequence, Shared, Text};
 
 /// So many steps a time slot takes at most, from its beginning or from the last put in it on.
 const SLOT_LIMIT: usize = 4_194_304;
@@ -81,13 +87,14 @@ fn later(goal: Option<u64>, until: u64) -> u64
     }
 }
 
-/// A goal, raised to a time, if there is one.
-fn raised(goal: Option<u64>, until: Option<u64>) -> Option<u64>
-    ensures { result ≡ raised goal until }
+/// A goal after what a query does to it.
+fn goal_after(goal: Option<u64>, change: GoalChange) -> Option<u64>
+    ensures { result ≡ goal_after goal change }
 {
-    match until {
-        Some(until) => Some(later(goal, until)),
-        None => goal,
+    match change {
+        GoalChange::Stays => goal,
+        GoalChange::RisesTo(until) => Some(later(goal, until)),
+        GoalChange::Ends => None,
     }
 }
 
@@ -262,11 +269,20 @@ impl LiveWorld {
         }
     }
 
+    /// A user has as many sessions open as he may at once.
+    fn is_share_used(&self, user: UserId) -> bool
+        ensures { result ≡ is_share_used self.now.state user.0 }
+    {
+        session_count(&self.sessions, user) as u64 >= self.policy.session_share(user)
+    }
+
     /// There is no room for a session of a user.
     fn is_full(&self, user: UserId) -> bool
         ensures { result ≡ is_full self.now.opening self.now.state user.0 }
     {
-        self.sessions.len() >= self.limits.sessions || self.opened(user) == u64::MAX
+        self.sessions.len() >= self.limits.sessions
+            || self.is_share_used(user)
+            || self.opened(user) == u64::MAX
     }
 
     /// The goal does not reach the current time.
@@ -328,6 +344,33 @@ impl LiveWorld {
         Ok(index)
     }
 
+    /// A token is the operator's.
+    pub fn is_operator(&self, token: &str) -> bool
+        ensures { result ≡ is_operator self.now.state.policy token.now }
+    {
+        self.policy.is_operator(token)
+    }
+
+    /// A session is open.
+    pub fn is_open(&self, id: SessionId) -> bool
+        ensures { result ≡ is_some (index_of self.now.state.sessions id) }
+    {
+        session_index(self.sessions.as_slice(), id).is_some()
+    }
+
+    /// A token is the operator's; else the refusal (1310).
+    fn check_operator(&self, token: &str) -> Result<(), WorldError>
+        ensures operator { OnOk result (is_operator self.now.state.policy token.now ≡ true) }
+        ensures other { OnErr result (is_operator self.now.state.policy token.now ≡ false) }
+        ensures refused { IsOkUnless result world_error.BadOperator }
+    {
+        if self.is_operator(token) {
+            Ok(())
+        } else {
+            Err(WorldError::BadOperator)
+        }
+    }
+
     /// The user whose grant an operator changes, where that is not refused; else the refusal (1310, 1311, 1312, 1304).
     pub fn grantee(&self, change: &GrantChange, full: bool) -> Result<UserId, WorldError>
         ensures user { IfOk result
@@ -339,9 +382,7 @@ impl LiveWorld {
         ensures refused { IfErr result
             (λ e. refusal_in self.now full (event.Grant change.now) ≡ Some e) }
     {
-        if !self.policy.is_operator(change.token.as_str()) {
-            return Err(WorldError::BadOperator);
-        }
+        self.check_operator(change.token.as_str())?;
         let Some(grantee) = self.policy.user(change.user.as_str()) else {
             return Err(WorldError::NoSuchUser);
         };
@@ -351,6 +392,32 @@ impl LiveWorld {
         }
         check_log(full)?;
         Ok(grantee)
+    }
+
+    /// The user whose sessions an operator ends, where that is not refused; else the refusal (1310, 1311, 1304).
+    pub fn user_to_end(&self, order: &EndOrder, full: bool) -> Result<UserId, WorldError>
+        ensures user { IfOk result
+            (λ user. user_of self.now.state.policy.members order.now.user ≡ Some user.0) }
+        ensures accepted { OnOk result (refusal_in self.now full (event.End order.now) ≡ None) }
+        ensures refused { IfErr result
+            (λ e. refusal_in self.now full (event.End order.now) ≡ Some e) }
+    {
+        self.check_operator(order.token.as_str())?;
+        let Some(user) = self.policy.user(order.user.as_str()) else {
+            return Err(WorldError::NoSuchUser);
+        };
+        check_log(full)?;
+        Ok(user)
+    }
+
+    /// An operator's order to stand still is not refused; else the refusal (1310, 1304).
+    pub fn check_halt(&self, order: &HaltOrder, full: bool) -> Result<(), WorldError>
+        ensures accepted { OnOk result (refusal_in self.now full (event.Halt order.now) ≡ None) }
+        ensures refused { IfErr result
+            (λ e. refusal_in self.now full (event.Halt order.now) ≡ Some e) }
+    {
+        self.check_operator(order.token.as_str())?;
+        check_log(full)
     }
 
     /// Neither a log that is full or not nor the goal refuses a step; else the refusal (1304, 1305).
@@ -441,6 +508,49 @@ impl LiveWorld {
         };
         retire_sessions(&mut self.sessions, &self.policy, user);
         Ok(())
+    }
+
+    /// Ends the open sessions of a user.
+    pub fn end(&mut self, user: UserId)
+        ensures { self.new ≡ with_state self.old (ended_for self.old.state user.0) }
+    {
+        end_sessions(&mut self.sessions, user);
+    }
+
+    /// Lets the simulation stand still: no run has a goal any more.
+    pub fn halt(&mut self)
+        ensures { self.new ≡ with_state self.old (halted self.old.state) }
+    {
+        self.goal = None;
+    }
+
+    /// How many sessions a user has open. Takes memory for his name.
+    fn user_sessions_of(&self, user: UserId) -> Result<UserSessions, AllocError>
+        ensures { IfOk result (λ sessions. sessions ≡ user_sessions self.now.state user.0) }
+    {
+        Ok(UserSessions {
+            user: Text::copy(self.alloc, self.policy.name(user))?,
+            sessions: session_count(&self.sessions, user) as u64,
+        })
+    }
+
+    /// How many sessions each user has open, in the order of the policy. Takes memory.
+    pub fn user_sessions(&self) -> Result<Sequence<UserSessions>, AllocError>
+        ensures { IfOk result (λ sessions. sessions ≡ map (user_sessions self.now.state)
+            (below (length self.now.state.policy.members))) }
+    {
+        let mut users = Vec::new(self.alloc);
+        for number in 0..self.policy.count() {
+            users.push(self.user_sessions_of(UserId(number))?)?;
+        }
+        Ok(Sequence::from_vec(users))
+    }
+
+    /// How many kept segments were not handed out.
+    pub fn jobs_waiting(&self) -> usize
+        ensures { result ≡ jobs_waiting self.now.state.segments }
+    {
+        self.run.jobs_waiting()
     }
 
     /// Closes the session at an index.
@@ -593,7 +703,7 @@ impl LiveWorld {
         let session = &mut self.sessions[index];
         let answer = answer_query(session, &self.policy, &mut self.run, &self.book, query)?;
         mark_asked(&mut self.watched, session, query);
-        self.goal = raised(self.goal, answer.goal);
+        self.goal = goal_after(self.goal, answer.goal);
         let change = answer.change.as_ref();
         let time = self.run.simulation().time();
         notify(&mut self.sessions, &mut self.watched, change, time);

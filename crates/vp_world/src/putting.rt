@@ -10,7 +10,7 @@ ghost use Rattle.vp_world.specs.History.{outcome_of_put, segments_of_put};
 
 use crate::error::WorldError;
 use crate::user_observer::UserObserver;
-use vp_answer::{OpenSession, Query, Reply};
+use vp_answer::{GoalChange, OpenSession, Query, Reply};
 use vp_bits::Bits;
 use vp_elab::ObjectId;
 use vp_expr::Change;
@@ -24,8 +24,8 @@ pub struct AnswerWithChange {
     pub reply: Reply,
     /// The same, for the log's entry.
     pub entry_reply: Reply,
-    /// The goal that it sets, if it sets one, in time units.
-    pub goal: Option<u64>,
+    /// What it does to the goal.
+    pub goal: GoalChange,
     /// What it changed.
     pub change: Option<Change>,
 }

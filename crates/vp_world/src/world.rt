@@ -1,4 +1,4 @@
-ghost use Rattle.std.specs.Prelude.{◌≡◌, ◌≤◌, ◌||◌, [], false, true, drop, length, option_copied, option_map, IfErr, IfOk, IfSome, IsOkUnless, None, OnOk, Some};
+ghost use Rattle.std.specs.Prelude.{◌≡◌, ◌≤◌, ◌||◌, [], false, true, drop, is_none, is_some, length, option_copied, option_map, IfErr, IfOk, IfSome, IsOkUnless, None, OnOk, Some};
 ghost use Rattle.std.specs.Arc.{arc_value};
 ghost use Rattle.std.specs.List.{All};
 ghost use Rattle.vp_policy.specs.PolicyState.{Fits};
@@ -9,7 +9,11 @@ ghost use Rattle.vp_race.specs.Recording.{kept_of, next_job};
 ghost use Rattle.vp_world.specs.Events.{IsWellFormed};
 ghost use Rattle.vp_world.specs.HiddenNames.{HidesAlike};
 ghost use Rattle.vp_world.specs.Races.{step_name};
-ghost use Rattle.vp_world.specs.History.{Applies, IsLegal, IsReached, answered_by, going_round, held_bytes, is_full_of, is_full_of_bytes, is_slot_full, limit_of_grants, limit_of_simulation, limit_of_users, most_entries, refused_by, state_after, with_bytes, with_last_for};
+ghost use Rattle.vp_world.specs.History.{Applies, IsLegal, IsReached, answered_by, going_round, held_bytes, is_full_of, is_full_of_bytes, is_slot_full, limit_of_operator, limit_of_simulation, limit_of_users, most_entries, refused_by, state_after, with_bytes, with_last_for};
+ghost use Rattle.vp_answer.specs.OpenSessions.{index_of};
+ghost use Rattle.vp_policy.specs.Regrants.{is_operator};
+ghost use Rattle.vp_world.specs.Status.{status_of};
+ghost use Rattle.vp_world.specs.Worlds.{State};
 
 use crate::archive::Archive;
 use crate::entry::{Asked, Entry, LoggedEvent, Login};
@@ -23,7 +27,7 @@ use crate::shown_races::step_name;
 use std::alloc::{AllocError, Global};
 use std::marker::Model;
 use std::sync::Arc;
-use vp_answer::{GrantChange, Query, Reply, SessionId};
+use vp_answer::{EndOrder, GrantChange, HaltOrder, Query, Reply, SessionId, WorldStatus};
 use vp_policy::Policy;
 use vp_race::{BookedFinding, Finding, Segment};
 use vp_sim::Checked;
@@ -201,11 +205,18 @@ impl World {
     fn is_full_for_grants(&self) -> bool
         ensures { result ≡ (is_full_of_bytes self.now.opening.limits.bytes
             self.now.handed_out self.now.log
-            || is_full_of (limit_of_grants self.now.opening.limits)
+            || is_full_of (limit_of_operator self.now.opening.limits)
             self.now.handed_out self.now.log) }
     {
-        let limits = self.present.limits();
-        self.log.is_full_of_bytes(limits.bytes) || self.log.is_full(limits.limit_of_grants())
+        self.log.is_full_of_bytes(self.present.limits().bytes) || self.is_full_for_operator()
+    }
+
+    /// The log has no room for an End or a Halt.
+    fn is_full_for_operator(&self) -> bool
+        ensures { result ≡ is_full_of (limit_of_operator self.now.opening.limits)
+            self.now.handed_out self.now.log }
+    {
+        self.log.is_full(self.present.limits().limit_of_operator())
     }
 
     /// The log has no room for a Close.
@@ -229,8 +240,8 @@ impl World {
 
     /// Lets an event happen, answers it, and adds it to the log. An Open is refused by a wrong name or token (1302), too many
     /// sessions (1301) or a full log (1304); an Ask and a Close by a session that is not open (1303) or a full log; a Grant by
-    /// another token than the operator's (1310), a user (1311) or an envelope (1312) that is not there, or a full log; a Step and an
-    /// Advance by a full log, and a Step by a full time slot (1304), by a goal that does not reach so far (1305) or by the simulation
+    /// another token than the operator's (1310), a user (1311) or an envelope (1312) that is not there, or a full log; an End by such
+    /// a token, such a user or a full log; a Halt by such a token or a full log; a Step and an Advance by a full log, and a Step by a full time slot (1304), by a goal that does not reach so far (1305) or by the simulation
     /// (1308); a TakeJob by a full log or where no kept segment is left to be handed out (1306); a Book by a full log or by the book
     /// (1309); and each when out of memory (1307). A refusal leaves the world as it was. A name that is hidden from a session's user is answered as one that is not
     /// there.
@@ -246,6 +257,8 @@ impl World {
             Event::Ask { session, query } => self.apply_ask(session, query),
             Event::Close { session } => self.apply_close(session),
             Event::Grant(change) => self.apply_grant(change),
+            Event::End(order) => self.apply_end(order),
+            Event::Halt(order) => self.apply_halt(order),
             Event::Step(k) => self.apply_step(k),
             Event::Advance => self.apply_advance(),
             Event::TakeJob => self.apply_job(),
@@ -449,5 +462,89 @@ impl World {
             finished: self.present.finished(),
         });
         Ok(Reply::Done)
+    }
+
+    /// The same of an End.
+    fn apply_end(&mut self, order: EndOrder) -> Result<Reply, WorldError>
+        ensures applied { Applies self.old (event.End order) result self.new }
+        ensures reply { IfOk result (λ reply. reply ≡ answered_by self.old (event.End order)) }
+    {
+        let full = self.is_full_for_operator();
+        let user = self.present.user_to_end(&order, full)?;
+        self.log.reserve()?;
+        let order = Arc::new(self.alloc, order)?;
+        self.present.end(user);
+        self.log.push(Entry {
+            happening: LoggedEvent::End { order },
+            time: self.present.time(),
+            finished: self.present.finished(),
+        });
+        Ok(Reply::Done)
+    }
+
+    /// The same of a Halt.
+    fn apply_halt(&mut self, order: HaltOrder) -> Result<Reply, WorldError>
+        ensures applied { Applies self.old (event.Halt order) result self.new }
+        ensures reply { IfOk result (λ reply. reply ≡ answered_by self.old (event.Halt order)) }
+    {
+        let full = self.is_full_for_operator();
+        self.present.check_halt(&order, full)?;
+        self.log.reserve()?;
+        let order = Arc::new(self.alloc, order)?;
+        self.present.halt();
+        self.log.push(Entry {
+            happening: LoggedEvent::Halt { order },
+            time: self.present.time(),
+            finished: self.present.finished(),
+        });
+        Ok(Reply::Done)
+    }
+
+    /// A Step that takes the first event is not refused, but for memory.
+    fn may_step(&self) -> bool
+        ensures { result ≡ is_none (refused_by self.now (event.Step 0)) }
+    {
+        let full = self.is_full_for_step();
+        self.present.check_goal(full).is_ok() && self.present.check_step(0).is_ok()
+    }
+
+    /// An Advance is not refused, but for memory.
+    fn may_advance(&self) -> bool
+        ensures { result ≡ is_none (refused_by self.now event.Advance) }
+    {
+        let full = self.is_full_for_simulation();
+        self.present.check_next_goal(full).is_ok() && self.present.check_advance().is_ok()
+    }
+
+    /// A token is the operator's.
+    pub fn is_operator(&self, token: &str) -> bool
+        ensures { let s : State = state_after self.now.opening self.now.log in
+            result ≡ is_operator s.policy token.now }
+    {
+        self.present.is_operator(token)
+    }
+
+    /// A session is open.
+    pub fn is_open(&self, session: SessionId) -> bool
+        ensures { let s : State = state_after self.now.opening self.now.log in
+            result ≡ is_some (index_of s.sessions session) }
+    {
+        self.present.is_open(session)
+    }
+
+    /// How the world stands. Takes memory.
+    pub fn status(&self) -> Result<WorldStatus, AllocError>
+        ensures { IfOk result (λ status. status ≡ status_of self.now) }
+    {
+        Ok(WorldStatus {
+            time: self.present.time(),
+            running: self.may_step() || self.may_advance(),
+            entries: self.entry_count(),
+            held: self.entry_count() - self.handed_out(),
+            bytes: self.held_bytes(),
+            sessions: self.present.user_sessions()?,
+            jobs: self.present.jobs_waiting() as u64,
+            races: self.present.races().len() as u64,
+        })
     }
 }

@@ -48,4 +48,5 @@ put_only observation session_state query.Poll p is = cc
 put_only observation session_state (query.Races from) p is = cc
 put_only observation session_state (query.Race number) p is = by_answer session_state (λ x. only_told session_state (reply.Race x)) (race_of observation number) (λ x q no. cc) p is
 put_only observation session_state (query.Run until) p is = cc
+put_only observation session_state query.Stop p is = cc
 put_only observation session_state query.Time p is = cc

@@ -26,10 +26,12 @@ use Rattle.vp_vpi.specs.Observers.{Absent, Denied, Found, Lookup, Observer, is_r
 use Rattle.vp_vpi.specs.SessionStates as session_states
 use Rattle.vp_vpi.specs.SessionStates.{SessionState, drained, retired, with_due, with_handle, without_callback, handle_to, has_room, is_full, next_handle, object_of, with_handles}
 use Rattle.vp_answer.specs.declared.reply.Reply.{Reply}
+use Rattle.vp_answer.specs.declared.goal.GoalChange.{GoalChange}
+use Rattle.vp_answer.specs.declared.goal.GoalChange.TheVariants.{Ends, RisesTo, Stays}
 use Rattle.vp_answer.specs.declared.query.Query.{Query}
 use Rattle.vp_answer.specs.declared.query.Query.TheVariants as query
 use Rattle.vp_answer.specs.declared.reply.Reply.TheVariants as reply
-use Rattle.vp_answer.specs.Answers.{Response, unwatch_response, freed, made, only_told, polling, putting, refused, respond, response_by, scanned, reply_with, value_in, watching}
+use Rattle.vp_answer.specs.Answers.{Response, unwatch_response, freed, made, only_told, polling, putting, refused, respond, response_by, scanned, steering, reply_with, value_in, watching}
 use Rattle.vp_answer.specs.Renumbering as under
 use Rattle.vp_answer.specs.Renumbering.{IsOpen, IsSeenAs, Renumbering}
 
@@ -488,12 +490,12 @@ reply_under n s given due' due e =
 -- what comes of a handle that is made
 made_under : (n : Renumbering) (s : SessionState) (o : ℕ) → made (under.session_state n s) (n.number o) ≡ under.response n (made s o)
 made_under n s o =
-    ap (λ (h : ℕ). record { reply = reply.Handle h; session_state = with_handle (n.number o) (under.session_state n s); goal = None; put = None }) (next_under n s.handles)
-    ∙ ap (λ t. record { reply = reply.Handle (next_handle s.handles); session_state = t; goal = None; put = None }) (with_handles_under n (handle_to o ∷ []) s)
+    ap (λ (h : ℕ). record { reply = reply.Handle h; session_state = with_handle (n.number o) (under.session_state n s); goal = Stays; put = None }) (next_under n s.handles)
+    ∙ ap (λ t. record { reply = reply.Handle (next_handle s.handles); session_state = t; goal = Stays; put = None }) (with_handles_under n (handle_to o ∷ []) s)
 
 -- of an iteration
 scanned_under : (n : Renumbering) (s : SessionState) (i : Iterated) → scanned (under.session_state n s) (iterated_under n i) ≡ under.response n (scanned s i)
-scanned_under n s i = ap (λ t. record { reply = reply.Listing i.listing; session_state = t; goal = None; put = None }) (with_handles_under n i.handles s)
+scanned_under n s i = ap (λ t. record { reply = reply.Listing i.listing; session_state = t; goal = Stays; put = None }) (with_handles_under n i.handles s)
 
 -- handles without that of a number
 freed_handles : (n : Renumbering) (h : ℕ) (handles : List (Option ObjectId)) → session_states.freed h (map (under.handle n) handles) ≡ map (under.handle n) (session_states.freed h handles)
@@ -503,12 +505,12 @@ freed_handles n (suc h) handles = sym (map-set (under.handle n) handles h None)
 -- what comes of a handle that is freed
 freed_under : (n : Renumbering) (s : SessionState) (h : ℕ) → freed (under.session_state n s) h ≡ under.response n (freed s h)
 freed_under n s h =
-    ap (λ hs. record { reply = reply.Done; session_state = record { user = s.user; handles = hs; registry = under.registry n s.registry }; goal = None; put = None }) (freed_handles n h s.handles)
+    ap (λ hs. record { reply = reply.Done; session_state = record { user = s.user; handles = hs; registry = under.registry n s.registry }; goal = Stays; put = None }) (freed_handles n h s.handles)
 
 -- of a callback that is registered
 watching_under : (n : Renumbering) (s : SessionState) (o : ℕ) → watching (under.session_state n s) (n.number o) ≡ under.response n (watching s o)
 watching_under n s o =
-    ap (λ r. record { reply = reply.Callback (s.registry.given + 1); session_state = record { user = s.user; handles = map (under.handle n) s.handles; registry = r }; goal = None; put = None })
+    ap (λ r. record { reply = reply.Callback (s.registry.given + 1); session_state = record { user = s.user; handles = map (under.handle n) s.handles; registry = r }; goal = Stays; put = None })
     (registered_under n s.registry o)
 
 -- a session without a callback
@@ -538,12 +540,19 @@ polling_under : (n : Renumbering) (s : SessionState) → polling (under.session_
 polling_under n s =
     ap (λ ps. only_told (under.session_state n (drained s)) (reply.Notices (record { notices = ps; lost = s.registry.lost }))) (polled_under n s.registry.waiting)
 
--- what comes of a query to run, where the user may and where he may not
-run_test : (n : Renumbering) (s : SessionState) (until : ℕ) (b : Bool)
-    → record { reply = if b then reply.Done else reply.RunDenied; session_state = under.session_state n s; goal = if b then Some until else None; put = None }
-    ≡ under.response n (record { reply = if b then reply.Done else reply.RunDenied; session_state = s; goal = if b then Some until else None; put = None })
-run_test n s until true = refl
-run_test n s until false = refl
+-- what comes of a query to change the goal, where the user may and where he may not
+steer_test : (n : Renumbering) (s : SessionState) (change : GoalChange) (b : Bool)
+    → record { reply = if b then reply.Done else reply.RunDenied; session_state = under.session_state n s; goal = if b then change else Stays; put = None }
+    ≡ under.response n (record { reply = if b then reply.Done else reply.RunDenied; session_state = s; goal = if b then change else Stays; put = None })
+steer_test n s change true = refl
+steer_test n s change false = refl
+
+-- by what can be looked up
+steering_under : (n : Renumbering) (seen observation : Observer) → IsSeenAs n seen observation → (s : SessionState) (change : GoalChange)
+    → steering observation (under.session_state n s) change ≡ under.response n (steering seen s change)
+steering_under n seen observation alike s change =
+    ap (λ (b : Bool). record { reply = if b then reply.Done else reply.RunDenied; session_state = under.session_state n s; goal = if b then change else Stays; put = None }) alike.may_run
+    ∙ steer_test n s change seen.may_run
 
 -- what a session is answered is the same under other numbers of its objects
 pub respond_under : (n : Renumbering) (seen observation : Observer) → IsSeenAs n seen observation → (s : SessionState) (r : Query)
@@ -586,9 +595,8 @@ respond_under n seen observation alike s (query.Races from) =
 respond_under n seen observation alike s (query.Race k) =
     reply_under n s reply.Race (race_of observation k) (race_of seen k)
     (ap (λ races. or_refusal (option_map (race_details k) (shown_at races k)) error.NoSuchRace) alike.races)
-respond_under n seen observation alike s (query.Run until) =
-    ap (λ (b : Bool). record { reply = if b then reply.Done else reply.RunDenied; session_state = under.session_state n s; goal = if b then Some until else None; put = None }) alike.may_run
-    ∙ run_test n s until seen.may_run
+respond_under n seen observation alike s (query.Run until) = steering_under n seen observation alike s (RisesTo until)
+respond_under n seen observation alike s query.Stop = steering_under n seen observation alike s Ends
 respond_under n seen observation alike s query.Time =
     ap (λ (t : ℕ). only_told (under.session_state n s) (reply.Time t observation.finished)) alike.time
     ∙ ap (λ (b : Bool). only_told (under.session_state n s) (reply.Time seen.time b)) alike.finished

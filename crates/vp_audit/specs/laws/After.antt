@@ -341,4 +341,5 @@ watched_kept v values time finished races session_state (query.Races from) h = h
 watched_kept v values time finished races session_state (query.Race number) h =
     watched_by v session_state h (λ x. only_told session_state (reply.Race x)) (race_of (observer_seen v values time finished races) number) (λ x e. h)
 watched_kept v values time finished races session_state (query.Run until) h = h
+watched_kept v values time finished races session_state query.Stop h = h
 watched_kept v values time finished races session_state query.Time h = h

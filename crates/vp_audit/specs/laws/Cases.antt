@@ -1,6 +1,6 @@
 -- A user's part after each event.
 use Rattle.std.proofs.Common.{◌≡◌, ℕ, zero, suc, ◌+◌, ◌<◌, Bool, false, true, List, [], ◌∷◌, ◌++◌, length, Option, Some, None, refl, ap, sym, subst, ◌∙◌, arith, append-nil}
-use Rattle.std.specs.Prelude.{◌==◌, cond, filter, if◌then◌else◌, map, option_and_then, option_map, slice_get, slice_index, slice_set}
+use Rattle.std.specs.Prelude.{◌==◌, cond, filter, if◌then◌else◌, map, not, option_and_then, option_map, slice_get, slice_index, slice_set}
 use Rattle.std.specs.List.{All, position, position_from, remove}
 use Rattle.std.specs.Option.{option_map_or}
 use Rattle.std.proofs.lemmas.List.{length-set, map-append, map-set}
@@ -27,8 +27,8 @@ use Rattle.vp_answer.specs.declared.reply.Reply.TheVariants as reply
 use Rattle.vp_answer.specs.Answers.{Response, respond}
 use Rattle.vp_answer.specs.Renumbering as under
 use Rattle.vp_answer.specs.laws.Renumbering.{respond_under}
-use Rattle.vp_world.specs.History.{observer_at, asked, asked_at, change_of, changed_by, closed_at, next_session, opened_by, outcome_of_put, raised, response_of, segments_of_put, state_asked, stepped, with_booked, with_response}
-use Rattle.vp_answer.specs.OpenSessions.{OpenSessionState, index_of, notified_session, same_session}
+use Rattle.vp_world.specs.History.{observer_at, asked, asked_at, change_of, changed_by, closed_at, ended_for, goal_after, halted, next_session, opened_by, outcome_of_put, response_of, segments_of_put, state_asked, stepped, with_booked, with_response}
+use Rattle.vp_answer.specs.OpenSessions.{OpenSessionState, index_of, notified_session, same_session, without_user}
 use Rattle.vp_world.specs.Worlds.{State}
 use Rattle.vp_replay.specs.declared.item.OwnEvent.{OwnEvent}
 use Rattle.vp_replay.specs.declared.item.OwnEvent.TheVariants.{Asks, Closes, Opens}
@@ -228,6 +228,76 @@ nothing_case design u s known p is answered =
       replied = refl;
     }
 
+-- a halt
+pub halted_case : (design : Elaborated) (u : ℕ) (s : State) (known : List Bool) (p : Part) → IsPartOf design u s known p → (answered : Reply) → ComesTo design u (s) (halted s) known p None None answered p.races
+halted_case design u s known p is answered =
+    record {
+      part = after_is design u s known p is (halted s) None p.opens p.sessions s.sessions p.races refl is.its_design refl tt (sym (map_same (notified_session None s.run.time) (λ t. refl) s.sessions))
+          is.sessions is.named is.watched refl is.opens is.races;
+      replied = refl;
+    }
+
+-- ---- ends of sessions
+
+-- what all of some have, the others have without those of a user
+all_others : (P : OpenSessionState → Type 0) (v : ℕ) (ts : List OpenSessionState) → All P ts → All P (without_user v ts)
+all_others P v [] h = All-nil P
+all_others P v (t ∷ ts) h = by_test (is_of v t) (all_others P v ts (λ k d l. h (suc k) d (omega arith))) where
+  by_test : (b : Bool) → All P (without_user v ts) → All P (if not b then t ∷ without_user v ts else without_user v ts)
+  by_test true rest = rest
+  by_test false rest = All-cons P t (without_user v ts) (h 0 t (omega arith)) rest
+
+-- of another's end a user's sessions know nothing
+own_stay : (u v : ℕ) → (v == u) ≡ false → (ts : List OpenSessionState) → filter (is_of u) (without_user v ts) ≡ filter (is_of u) ts
+own_stay u v other [] = refl
+own_stay u v other (t ∷ ts) = by_test (is_of v t) refl (own_stay u v other ts) where
+  by_test : (b : Bool) → is_of v t ≡ b → filter (is_of u) (without_user v ts) ≡ filter (is_of u) ts
+      → filter (is_of u) (if not b then t ∷ without_user v ts else without_user v ts) ≡ filter (is_of u) (t ∷ ts)
+  by_test true his rest =
+      let same : t.id.user.0 ≡ v = same_number t.id.user.0 v his in
+      let not_own : is_of u t ≡ false = ap (λ (n : ℕ). n == u) same ∙ other in
+      rest ∙ sym (ap (λ (b : Bool). if b then t ∷ filter (is_of u) ts else filter (is_of u) ts) not_own)
+  by_test false his rest = ap (λ ys. if is_of u t then t ∷ ys else ys) rest
+
+-- after his own he has none
+none_stay : (u : ℕ) (ts : List OpenSessionState) → filter (is_of u) (without_user u ts) ≡ []
+none_stay u [] = refl
+none_stay u (t ∷ ts) = by_test (is_of u t) refl (none_stay u ts) where
+  by_test : (b : Bool) → is_of u t ≡ b → filter (is_of u) (without_user u ts) ≡ []
+      → filter (is_of u) (if not b then t ∷ without_user u ts else without_user u ts) ≡ []
+  by_test true his rest = rest
+  by_test false his rest = ap (λ (b : Bool). if b then t ∷ filter (is_of u) (without_user u ts) else filter (is_of u) (without_user u ts)) his ∙ rest
+
+-- an end of another's sessions
+pub ended_other : (design : Elaborated) (u : ℕ) (s : State) (known : List Bool) (p : Part) → IsPartOf design u s known p → (v : ℕ) → (v == u) ≡ false → (answered : Reply)
+    → ComesTo design u s (ended_for s v) known p None None answered p.races
+ended_other design u s known p is v other answered =
+    record {
+      part = after_is design u s known p is (ended_for s v) None p.opens p.sessions (without_user v s.sessions) p.races refl is.its_design refl tt
+          (sym (map_same (notified_session None s.run.time) (λ t. refl) (without_user v s.sessions))) (is.sessions ∙ sym (own_stay u v other s.sessions))
+          (all_others (λ (t : OpenSessionState). t.session_state.user ≡ t.id.user.0) v s.sessions is.named) is.watched refl is.opens is.races;
+      replied = refl;
+    }
+
+-- an end of his own
+pub ended_own : (design : Elaborated) (u : ℕ) (s : State) (known : List Bool) (p : Part) → IsPartOf design u s known p → IsPartOf design u (ended_for s u) known (record p { sessions = [] })
+ended_own design u s known p is =
+    record {
+      its_design = is.its_design;
+      its_tree = is.its_tree;
+      many = is.many;
+      view = is.view;
+      is_known = is.is_known;
+      counts = is.counts;
+      opens = is.opens;
+      sessions = sym (none_stay u s.sessions);
+      named = all_others (λ (t : OpenSessionState). t.session_state.user ≡ t.id.user.0) u s.sessions is.named;
+      watched = All-nil _;
+      time = is.time;
+      finished = is.finished;
+      races = is.races;
+    }
+
 -- a query of a user's open session
 pub asked_own : (design : Elaborated) (u : ℕ) (s : State) (known : List Bool) (p : Part) → IsPartOf design u s known p → (id : SessionId) (r : Query) → (id.user.0 == u) ≡ true → (index : ℕ)
     → index_of s.sessions id ≡ Some index
@@ -247,7 +317,7 @@ asked_own design u s known p is id r own_event index at =
     let named_new : given.session_state.user ≡ i.his.id.user.0 =
     user_kept (observer_of_part p) i.his.session_state r ∙ ap (λ (t : OpenSessionState). t.session_state.user) i.is_under
     ∙ all_get (λ (t : OpenSessionState). t.session_state.user ≡ t.id.user.0) s.sessions index i.session is.named i.there ∙ ap (λ (t : OpenSessionState). t.id.user.0) (sym i.is_under) in
-    let stays = stepped_is design u s known p is (raised s.goal mine.goal) p.opens (slice_set p.sessions i.inner new) (slice_set s.sessions index (session_under known new))
+    let stays = stepped_is design u s known p is (goal_after s.goal mine.goal) p.opens (slice_set p.sessions i.inner new) (slice_set s.sessions index (session_under known new))
     (segments_of_put s.segments given.put) (outcome_of_put s.run given.put) (outcome_changes s.run given.put) (outcome_leaves s.run given.put)
     (i.exchanged new (ap (λ (t : OpenSessionState). t.id.user.0 == u) i.is_under ∙ same_own u id own_event i.session i.its_name))
     (all_set (λ (t : OpenSessionState). t.session_state.user ≡ t.id.user.0) s.sessions index (session_under known new) is.named named_new)
@@ -258,7 +328,7 @@ asked_own design u s known p is id r own_event index at =
     let ids : i.his.id ≡ i.session.id = ap (λ (t : OpenSessionState). t.id) i.is_under in
     let after_world : asked_at s (Some index) r ≡ with_response s index i.his given =
     ap (λ x. state_asked s index x r) i.there ∙ ap (with_response s index i.session) world
-    ∙ ap (λ (n : SessionId). stepped (record s { sessions = slice_set s.sessions index (record { id = n; session_state = given.session_state }); goal = raised s.goal given.goal })
+    ∙ ap (λ (n : SessionId). stepped (record s { sessions = slice_set s.sessions index (record { id = n; session_state = given.session_state }); goal = goal_after s.goal given.goal })
     (segments_of_put s.segments given.put) (outcome_of_put s.run given.put)) (sym ids) in
     let change_is : changed_by s (slice_get s.sessions index) r ≡ change_of (outcome_of_put s.run given.put) =
     ap (λ x. changed_by s x r) i.there ∙ ap (λ (g : Response). change_of (outcome_of_put s.run g.put)) world in
@@ -291,7 +361,7 @@ asked_other design u s known p is id r other index at (Some session) there answe
     let given = response_of s session.session_state r in
     let new : OpenSessionState = record session { session_state = given.session_state } in
     record {
-      part = stepped_is design u s known p is (raised s.goal given.goal) p.opens p.sessions (slice_set s.sessions index new) (segments_of_put s.segments given.put)
+      part = stepped_is design u s known p is (goal_after s.goal given.goal) p.opens p.sessions (slice_set s.sessions index new) (segments_of_put s.segments given.put)
           (outcome_of_put s.run given.put) (outcome_changes s.run given.put) (outcome_leaves s.run given.put)
           (is.sessions ∙ sym (apart_set (is_of u) s.sessions index session new there not_his not_his))
           (all_set (λ (x : OpenSessionState). x.session_state.user ≡ x.id.user.0) s.sessions index new is.named

@@ -19,6 +19,7 @@ use Rattle.vp_vpi.specs.declared.races.ShownRace.{ShownRace}
 use Rattle.vp_world.specs.Races.{races_seen}
 use Rattle.vp_answer.specs.Renumbering as under
 use Rattle.vp_world.specs.History.{change_of, noticed, stepped}
+pub use Rattle.vp_answer.specs.OpenSessions.{is_of}
 use Rattle.vp_answer.specs.OpenSessions.{OpenSessionState, notified_session}
 use Rattle.vp_world.specs.Worlds.{State}
 use Rattle.vp_replay.specs.Parts.{Part, values_after}
@@ -29,10 +30,6 @@ use Rattle.vp_audit.specs.laws.After.{AreWatched, due_same, values_kept, watched
 use Rattle.vp_replay.specs.laws.Denials.{denied_seen_at}
 use Rattle.vp_replay.specs.laws.Known.{by_index}
 use Rattle.vp_audit.specs.laws.Sims.{Changes, IsWithin}
-
--- a session is one of a user
-abbrev pub is_of : ℕ → OpenSessionState → Bool
-is_of u t = t.id.user.0 == u
 
 -- a session under the numbers of what is known
 abbrev pub session_under : List Bool → OpenSessionState → OpenSessionState

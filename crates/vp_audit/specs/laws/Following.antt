@@ -22,7 +22,7 @@ use Rattle.vp_world.specs.Entries.{Entry}
 use Rattle.vp_world.specs.History.{IsLegal, after, entry_of, state_after}
 use Rattle.vp_world.specs.Races.{races_seen}
 use Rattle.vp_world.specs.Worlds.{Opening, State, start}
-use Rattle.vp_replay.specs.declared.item.GrantItem.{GrantItem}
+use Rattle.vp_replay.specs.declared.item.OrderItem.{OrderItem}
 use Rattle.vp_replay.specs.declared.item.Item.{Item}
 use Rattle.vp_replay.specs.declared.item.OwnEvent.{OwnEvent}
 use Rattle.vp_replay.specs.Known.{known_index}
@@ -86,8 +86,8 @@ user_part design u s known p is = record {
 -- ---- items
 
 -- an item that is none changes nothing, and another is taken up
-item_part : (p : Part) (own_event : Option OwnEvent) (granted : Option GrantItem) (change : Option Change) (time : Option ℕ) (finished : Option Bool) (race : Option ShownRace)
-    → (let i : Item = record { own_event = own_event; granted = granted; change = change; time = time; finished = finished; race = race } in
+item_part : (p : Part) (own_event : Option OwnEvent) (order : Option OrderItem) (change : Option Change) (time : Option ℕ) (finished : Option Bool) (race : Option ShownRace)
+    → (let i : Item = record { own_event = own_event; order = order; change = change; time = time; finished = finished; race = race } in
     option_map_or (part_after p) (item_if i) p ≡ part_after p i)
 item_part p (Some o) g c t f r = refl
 item_part p None (Some g) c t f r = refl
@@ -100,8 +100,8 @@ item_part p None None None None None None =
     (sym (map_same (notified_session None p.time) (λ t. refl) p.sessions))
 
 -- and without one there is no event of his own
-item_reply : (p : Part) (own_event : Option OwnEvent) (granted : Option GrantItem) (change : Option Change) (time : Option ℕ) (finished : Option Bool) (race : Option ShownRace)
-    → (let i : Item = record { own_event = own_event; granted = granted; change = change; time = time; finished = finished; race = race } in
+item_reply : (p : Part) (own_event : Option OwnEvent) (order : Option OrderItem) (change : Option Change) (time : Option ℕ) (finished : Option Bool) (race : Option ShownRace)
+    → (let i : Item = record { own_event = own_event; order = order; change = change; time = time; finished = finished; race = race } in
     option_and_then (λ (x : Item). option_map (reply_of p) x.own_event) (item_if i) ≡ option_map (reply_of p) own_event)
 item_reply p (Some o) g c t f r = refl
 item_reply p None (Some g) c t f r = refl
@@ -172,7 +172,7 @@ parts_follow opening design u before (e ∷ log) s known p at is (formed, accept
     let following = event_follows opening design u s known p is e.event in
     subst (IsPartOf design u (fold (λ x y. after opening x y.event) t log) (known_from opening u t now log))
     (sym (first_item p (item_if i) (items_from opening u t now log)
-    ∙ ap (λ q. part_from q (items_from opening u t now log)) (item_part p i.own_event i.granted i.change i.time i.finished i.race ∙ ap (part_after p) item)))
+    ∙ ap (λ q. part_from q (items_from opening u t now log)) (item_part p i.own_event i.order i.change i.time i.finished i.race ∙ ap (part_after p) item)))
     (parts_follow opening design u (before ++ e ∷ []) log t now (part_after p (item_at opening u s known e.event)) next following.part rest)
 
 -- ---- the law
@@ -200,7 +200,7 @@ event_by_event opening right u log e legal =
       reply =
           ap (own_reply u) cut.1 ∙ comes.replied
           ∙ ap (λ (x : Item). option_map (reply_of p) x.own_event) (sym item)
-          ∙ sym (item_reply p i.own_event i.granted i.change i.time i.finished i.race);
+          ∙ sym (item_reply p i.own_event i.order i.change i.time i.finished i.race);
       next_part =
           user_part opening.design u (state_after opening (log ++ e ∷ [])) (known_in opening u (log ++ e ∷ [])) (part_of opening u (log ++ e ∷ []))
           (parts_follow opening opening.design u [] (log ++ e ∷ []) (start opening) (known_at_first opening u) _ refl first legal);

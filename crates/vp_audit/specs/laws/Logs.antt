@@ -12,7 +12,7 @@ use Rattle.vp_world.specs.Entries.{Entry}
 use Rattle.vp_answer.specs.OpenSessions.{notified_session}
 use Rattle.vp_world.specs.History.{IsLegal, after, entry_of, state_after}
 use Rattle.vp_world.specs.Worlds.{Opening, State, start}
-use Rattle.vp_replay.specs.declared.item.GrantItem.{GrantItem}
+use Rattle.vp_replay.specs.declared.item.OrderItem.{OrderItem}
 use Rattle.vp_replay.specs.declared.item.Item.{Item}
 use Rattle.vp_replay.specs.declared.item.OwnEvent.{OwnEvent}
 use Rattle.vp_replay.specs.Parts.{Part, part_after, reply_of, replies_from}
@@ -26,8 +26,8 @@ use Rattle.vp_audit.specs.laws.Openings.{first_is}
 use Rattle.vp_audit.specs.laws.Promise.{event_follows, item_at}
 
 -- an item that is none changes nothing, and another is shown
-item_replies : (p : Part) (own_event : Option OwnEvent) (granted : Option GrantItem) (change : Option Change) (time : Option ℕ) (finished : Option Bool) (race : Option ShownRace) (rest : List Item)
-    → (let i : Item = record { own_event = own_event; granted = granted; change = change; time = time; finished = finished; race = race } in
+item_replies : (p : Part) (own_event : Option OwnEvent) (order : Option OrderItem) (change : Option Change) (time : Option ℕ) (finished : Option Bool) (race : Option ShownRace) (rest : List Item)
+    → (let i : Item = record { own_event = own_event; order = order; change = change; time = time; finished = finished; race = race } in
     replies_from p (cons_option (item_if i) rest) ≡ cons_option (option_map (reply_of p) i.own_event) (replies_from (part_after p i) rest))
 item_replies p (Some o) g c t f r rest = refl
 item_replies p None (Some g) c t f r rest = refl
@@ -52,7 +52,7 @@ replies_follow opening design u before (e ∷ log) s known p at is (formed, acce
     let next_part = event_follows opening design u s known p is e.event in
     let next : t ≡ state_after opening (before ++ e ∷ []) =
     ap (λ x. after opening x e.event) at ∙ sym (fold-append (λ x y. after opening x y.event) (start opening) before (e ∷ [])) in
-    item_replies p i.own_event i.granted i.change i.time i.finished i.race (items_from opening u t now log)
+    item_replies p i.own_event i.order i.change i.time i.finished i.race (items_from opening u t now log)
     ∙ ap (λ x. cons_option (option_map (reply_of p) x.own_event) (replies_from (part_after p x) (items_from opening u t now log))) item
     ∙ ap (λ x. cons_option x (replies_from (part_after p (item_at opening u s known e.event)) (items_from opening u t now log))) (sym (ap (own_reply u) is_entry ∙ next_part.replied))
     ∙ ap (cons_option (own_reply u e)) (replies_follow opening design u (before ++ e ∷ []) log t now (part_after p (item_at opening u s known e.event)) next next_part.part rest)

@@ -1,5 +1,5 @@
 -- What a user is shown is a function of what he sees at the opening and of what of the log goes to him.
-use Rattle.std.proofs.Common.{◌≡◌, ℕ, ◌<◌, Bool, false, true, List, length, Option, Some, None, refl, ap, sym, subst, ◌∙◌, arith}
+use Rattle.std.proofs.Common.{◌≡◌, ℕ, ◌<◌, Bool, false, true, List, [], length, Option, Some, None, refl, ap, sym, subst, ◌∙◌, arith}
 use Rattle.std.specs.Prelude.{◌==◌, if◌then◌else◌, map, option_and_then, option_map, slice_get, unwrap_or}
 use Rattle.std.specs.List.{remove}
 use Rattle.std.specs.Option.{option_map_or}
@@ -12,6 +12,7 @@ use Rattle.vp_sim.specs.laws.Designs.{advance_leaves, step_leaves}
 use Rattle.vp_race.specs.Recording.{with_anew, with_step}
 use Rattle.vp_expr.specs.declared.change.Change.{Change}
 use Rattle.vp_vpi.specs.declared.races.ShownRace.{ShownRace}
+use Rattle.vp_answer.specs.declared.request.EndOrder.{EndOrder}
 use Rattle.vp_answer.specs.declared.request.GrantChange.{GrantChange}
 use Rattle.vp_answer.specs.declared.query.Query.{Query}
 use Rattle.vp_answer.specs.declared.request.SessionId.{SessionId}
@@ -20,16 +21,17 @@ use Rattle.vp_answer.specs.declared.reply.Reply.{Reply}
 use Rattle.vp_answer.specs.declared.reply.Reply.TheVariants as reply
 use Rattle.vp_world.specs.declared.event.Event.{Event}
 use Rattle.vp_world.specs.declared.event.Event.TheVariants as event
-use Rattle.vp_world.specs.History.{after, answer, asked, asked_at, changed, changed_by, closed_at, entry_of, granted_to, next_session, opened_by, with_job_taken}
+use Rattle.vp_world.specs.History.{after, answer, asked, asked_at, changed, changed_by, closed_at, ended_for, entry_of, granted_to, next_session, opened_by, with_job_taken}
 use Rattle.vp_world.specs.Worlds.{Opening, State}
 use Rattle.vp_answer.specs.OpenSessions.{index_of, notified_session}
 use Rattle.vp_replay.specs.Known.{known_also}
 use Rattle.vp_replay.specs.declared.item.Item.{Item}
+use Rattle.vp_replay.specs.declared.item.OrderItem.{OrderItem}
 use Rattle.vp_replay.specs.declared.item.OwnEvent.{OwnEvent}
 use Rattle.vp_replay.specs.declared.item.OwnEvent.TheVariants.{Asks, Closes, Opens}
 use Rattle.vp_replay.specs.Parts.{values_after, Part, opens_after, part_after, part_granted, part_after_entry, races_after, reply_of, response_in, sessions_after, with_answer}
-use Rattle.vp_audit.specs.Projections.{change_seen, granted_of, item_of, known_after, opened_by_reply, other_flag, other_number, own_if, own_of, own_reply, race_of_event, regrant_of}
-use Rattle.vp_audit.specs.laws.Cases.{ComesTo, asked_other, asked_own, booked_case, closed_other, closed_own, nothing_case, opened_other, opened_own, own_is, own_not, part_none, step_case}
+use Rattle.vp_audit.specs.Projections.{change_seen, granted_of, is_end_of, item_of, known_after, opened_by_reply, order_by, other_flag, other_number, own_if, own_of, own_reply, race_of_event, regrant_of}
+use Rattle.vp_audit.specs.laws.Cases.{ComesTo, asked_other, asked_own, booked_case, closed_other, closed_own, ended_other, ended_own, halted_case, nothing_case, opened_other, opened_own, own_is, own_not, part_none, step_case}
 use Rattle.vp_answer.proofs.Lists.{map_same}
 use Rattle.vp_audit.specs.laws.Events.{IsPartOf, after_is, flag_after, number_after, part_following, same_number}
 use Rattle.vp_audit.specs.laws.Grants.{granted_other, granted_own}
@@ -54,10 +56,11 @@ login_within members name token v e = by_user (user_of members name) refl e wher
 
 -- ---- events
 
--- an event that is no change of grants
-abbrev pub IsNoGrant : Event → Type 0
-IsNoGrant (event.Grant change) = ⊥
-IsNoGrant e = Unit {0}
+-- an event that is neither a change of grants nor an end of sessions
+abbrev pub IsUnordered : Event → Type 0
+IsUnordered (event.Grant change) = ⊥
+IsUnordered (event.End order) = ⊥
+IsUnordered e = Unit {0}
 
 -- an opening, by the user whom it logs in
 open_case : (design : Elaborated) (u : ℕ) (s : State) (known : List Bool) (p : Part) → IsPartOf design u s known p → (found : Option ℕ) → ((v : ℕ) → found ≡ Some v → v < length s.opens)
@@ -117,8 +120,8 @@ close_case design u s known p is id (Some index) at true own_event =
 close_case design u s known p is id (Some index) at false own_event =
     subst (λ o. ComesTo design u s (closed_at s (Some index)) known p o None reply.Done p.races) (sym (own_not u id (Closes id) own_event)) (closed_other design u s known p is id own_event index at)
 
--- each event that is no change of grants
-pub event_comes : (opening : Opening) (design : Elaborated) (u : ℕ) (s : State) (known : List Bool) (p : Part) → IsPartOf design u s known p → (e : Event) → IsNoGrant e
+-- each of them
+pub event_comes : (opening : Opening) (design : Elaborated) (u : ℕ) (s : State) (known : List Bool) (p : Part) → IsPartOf design u s known p → (e : Event) → IsUnordered e
     → ComesTo design u s (after opening s e) known p (own_of u e (answer opening s e)) (changed s e) (answer opening s e) (races_after p.races (race_of_event design.tree (member_at s.policy.members u) e))
 event_comes opening design u s known p is (event.Open name token) n =
     open_case design u s known p is (login_of s.policy.members name token)
@@ -126,6 +129,8 @@ event_comes opening design u s known p is (event.Open name token) n =
 event_comes opening design u s known p is (event.Ask id r) n = ask_case design u s known p is id r (index_of s.sessions id) refl (id.user.0 == u) refl
 event_comes opening design u s known p is (event.Close id) n = close_case design u s known p is id (index_of s.sessions id) refl (id.user.0 == u) refl
 event_comes opening design u s known p is (event.Grant change) n = absurd n
+event_comes opening design u s known p is (event.End order) n = absurd n
+event_comes opening design u s known p is (event.Halt order) n = halted_case design u s known p is reply.Done
 event_comes opening design u s known p is (event.Step k) n = step_case design u s known p is (with_step s.segments k) (sim.step s.run k) (step_changes s.run k) (step_leaves s.run k) reply.Done
 event_comes opening design u s known p is event.Advance n = step_case design u s known p is (with_anew s.segments) (sim.advance s.run) (advance_changes s.run) (advance_leaves s.run) reply.Done
 event_comes opening design u s known p is event.TakeJob n =
@@ -138,11 +143,11 @@ event_comes opening design u s known p is (event.Book finding) n = booked_case d
 
 -- ---- items
 
--- the part after what goes to a user of an event that is no change of his grants
+-- the part after what goes to a user of an event that is no order of an operator about him
 entry_part : (design : Elaborated) (u : ℕ) (s : State) (known : List Bool) (p : Part) → IsPartOf design u s known p → (t : State) (own_event : Option OwnEvent) (change : Option Change) (race : Option ShownRace)
     → part_after_entry p own_event (record {
       own_event = own_event;
-      granted = None;
+      order = None;
       change = change_seen s.run.design.tree (member_at s.policy.members u) known change;
       time = other_number s.run.time t.run.time;
       finished = other_flag s.run.finished t.run.finished;
@@ -193,11 +198,11 @@ pub record Follows (opening : Opening) (design : Elaborated) (u : ℕ) (s : Stat
   pub part : IsPartOf design u (after opening s e) (known_after u s (after opening s e) known e) (part_after p (item_at opening u s known e))
   pub replied : own_reply u (entry_of opening s e) ≡ option_map (reply_of p) (item_at opening u s known e).own_event
 
--- the same by what comes of an event that is no change of his grants
-follows_by : (opening : Opening) (design : Elaborated) (u : ℕ) (s : State) (known : List Bool) (p : Part) → IsPartOf design u s known p → (e : Event) → regrant_of u s.policy e ≡ None
+-- the same by what comes of an event that is no order of an operator about him
+follows_by : (opening : Opening) (design : Elaborated) (u : ℕ) (s : State) (known : List Bool) (p : Part) → IsPartOf design u s known p → (e : Event) → regrant_of u s.policy e ≡ None → is_end_of u s.policy e ≡ false
     → ComesTo design u s (after opening s e) known p (own_of u e (answer opening s e)) (changed s e) (answer opening s e) (races_after p.races (race_of_event design.tree (member_at s.policy.members u) e))
     → Follows opening design u s known p e
-follows_by opening design u s known p is e none comes =
+follows_by opening design u s known p is e none no_end comes =
     let t = after opening s e in
     let m = member_at s.policy.members u in
     let own_event = own_of u e (answer opening s e) in
@@ -206,20 +211,21 @@ follows_by opening design u s known p is e none comes =
     let known_same : known_after u s t known e ≡ known = ap (λ g. option_map_or (λ (x : GrantChange). known_also t.run.design.tree (member_at t.policy.members u) known t.run.design.tree.nodes) g known) none in
     let item_same : part_after p (item_at opening u s known e) ≡ part_after_entry p own_event (record {
       own_event = own_event;
-      granted = None;
+      order = None;
       change = change_seen s.run.design.tree m known (changed s e);
       time = other_number s.run.time t.run.time;
       finished = other_flag s.run.finished t.run.finished;
       race = race;
     }) =
-    ap (λ (g : Option GrantChange). part_after p (record {
+    ap (λ (o : Option OrderItem). part_after p (record {
       own_event = own_event;
-      granted = option_map (granted_of u s t known (known_after u s t known e)) g;
+      order = o;
       change = change_seen s.run.design.tree m known (changed s e);
       time = other_number s.run.time t.run.time;
       finished = other_flag s.run.finished t.run.finished;
       race = race;
-    })) none in
+    })) (ap (λ (b : Bool). order_by b (option_map (granted_of u s t known (known_after u s t known e)) (regrant_of u s.policy e))) no_end
+    ∙ ap (λ (g : Option GrantChange). order_by false (option_map (granted_of u s t known (known_after u s t known e)) g)) none) in
     record {
       part =
           subst (λ ks. IsPartOf design u t ks (part_after p (item_at opening u s known e))) (sym known_same)
@@ -233,13 +239,13 @@ follows_by opening design u s known p is e none comes =
 grant_case : (opening : Opening) (design : Elaborated) (u : ℕ) (s : State) (known : List Bool) (p : Part) → IsPartOf design u s known p → (change : GrantChange) (found : Option ℕ)
     → user_of s.policy.members change.user ≡ found → Follows opening design u s known p (event.Grant change)
 grant_case opening design u s known p is change None at =
-    follows_by opening design u s known p is (event.Grant change) (ap (λ (n : Option ℕ). if option_map_or (λ v. v == u) n false then Some change else None) at)
+    follows_by opening design u s known p is (event.Grant change) (ap (λ (n : Option ℕ). if option_map_or (λ v. v == u) n false then Some change else None) at) refl
     (subst (λ (n : Option ℕ). ComesTo design u s (option_map_or (granted_to s change) n s) known p None None reply.Done p.races) (sym at) (nothing_case design u s known p is reply.Done))
 grant_case opening design u s known p is change (Some v) at = by_test (v == u) refl where
   by_test : (b : Bool) → (v == u) ≡ b → Follows opening design u s known p (event.Grant change)
   by_test false e =
       follows_by opening design u s known p is (event.Grant change)
-      (ap (λ (n : Option ℕ). if option_map_or (λ w. w == u) n false then Some change else None) at ∙ ap (λ (b : Bool). if b then Some change else None) e)
+      (ap (λ (n : Option ℕ). if option_map_or (λ w. w == u) n false then Some change else None) at ∙ ap (λ (b : Bool). if b then Some change else None) e) refl
       (subst (λ (n : Option ℕ). ComesTo design u s (option_map_or (granted_to s change) n s) known p None None reply.Done p.races) (sym at)
       (record { part = granted_other design u s known p is change v e; replied = refl }))
   by_test true e =
@@ -253,7 +259,7 @@ grant_case opening design u s known p is change (Some v) at = by_test (v == u) r
       ap (λ g. option_map_or (λ (x : GrantChange). known_also t.run.design.tree (member_at t.policy.members u) known t.run.design.tree.nodes) g known) regrant in
       let part_is : part_after p (item_at opening u s known (event.Grant change)) ≡ part_granted p (granted_of u s t known (known_after u s t known (event.Grant change)) change) =
       ap (λ (g : Option GrantChange). part_after p (record (item_at opening u s known (event.Grant change)) {
-        granted = option_map (granted_of u s t known (known_after u s t known (event.Grant change))) g;
+        order = order_by false (option_map (granted_of u s t known (known_after u s t known (event.Grant change))) g);
       })) regrant in
       let base = granted_own design u s known p is change (user_within s.policy.members change.user u his) in
       record {
@@ -265,13 +271,37 @@ grant_case opening design u s known p is change (Some v) at = by_test (v == u) r
         replied = refl;
       }
 
+-- an end of sessions, by the user whose they are
+end_case : (opening : Opening) (design : Elaborated) (u : ℕ) (s : State) (known : List Bool) (p : Part) → IsPartOf design u s known p → (order : EndOrder) (found : Option ℕ)
+    → user_of s.policy.members order.user ≡ found → Follows opening design u s known p (event.End order)
+end_case opening design u s known p is order None at =
+    follows_by opening design u s known p is (event.End order) refl (ap (λ (n : Option ℕ). option_map_or (λ v. v == u) n false) at)
+    (subst (λ (n : Option ℕ). ComesTo design u s (option_map_or (ended_for s) n s) known p None None reply.Done p.races) (sym at) (nothing_case design u s known p is reply.Done))
+end_case opening design u s known p is order (Some v) at = by_test (v == u) refl where
+  by_test : (b : Bool) → (v == u) ≡ b → Follows opening design u s known p (event.End order)
+  by_test false e =
+      follows_by opening design u s known p is (event.End order) refl (ap (λ (n : Option ℕ). option_map_or (λ w. w == u) n false) at ∙ e)
+      (subst (λ (n : Option ℕ). ComesTo design u s (option_map_or (ended_for s) n s) known p None None reply.Done p.races) (sym at) (ended_other design u s known p is v e reply.Done))
+  by_test true e =
+      let ends : is_end_of u s.policy (event.End order) ≡ true = ap (λ (n : Option ℕ). option_map_or (λ w. w == u) n false) at ∙ e in
+      let t = after opening s (event.End order) in
+      let t_is : t ≡ ended_for s u = ap (λ (n : Option ℕ). option_map_or (ended_for s) n s) (at ∙ ap Some (same_number v u e)) in
+      let part_is : part_after p (item_at opening u s known (event.End order)) ≡ record p { sessions = [] } =
+      ap (λ (b : Bool). part_after p (record (item_at opening u s known (event.End order)) { order = order_by b None })) ends in
+      record {
+        part = subst (IsPartOf design u t known) (sym part_is) (subst (λ (x : State). IsPartOf design u x known (record p { sessions = [] })) (sym t_is) (ended_own design u s known p is));
+        replied = refl;
+      }
+
 -- each event
 pub event_follows : (opening : Opening) (design : Elaborated) (u : ℕ) (s : State) (known : List Bool) (p : Part) → IsPartOf design u s known p → (e : Event) → Follows opening design u s known p e
-event_follows opening design u s known p is (event.Open name token) = follows_by opening design u s known p is (event.Open name token) refl (event_comes opening design u s known p is (event.Open name token) tt)
-event_follows opening design u s known p is (event.Ask id r) = follows_by opening design u s known p is (event.Ask id r) refl (event_comes opening design u s known p is (event.Ask id r) tt)
-event_follows opening design u s known p is (event.Close id) = follows_by opening design u s known p is (event.Close id) refl (event_comes opening design u s known p is (event.Close id) tt)
+event_follows opening design u s known p is (event.Open name token) = follows_by opening design u s known p is (event.Open name token) refl refl (event_comes opening design u s known p is (event.Open name token) tt)
+event_follows opening design u s known p is (event.Ask id r) = follows_by opening design u s known p is (event.Ask id r) refl refl (event_comes opening design u s known p is (event.Ask id r) tt)
+event_follows opening design u s known p is (event.Close id) = follows_by opening design u s known p is (event.Close id) refl refl (event_comes opening design u s known p is (event.Close id) tt)
 event_follows opening design u s known p is (event.Grant change) = grant_case opening design u s known p is change (user_of s.policy.members change.user) refl
-event_follows opening design u s known p is (event.Step k) = follows_by opening design u s known p is (event.Step k) refl (event_comes opening design u s known p is (event.Step k) tt)
-event_follows opening design u s known p is event.Advance = follows_by opening design u s known p is event.Advance refl (event_comes opening design u s known p is event.Advance tt)
-event_follows opening design u s known p is event.TakeJob = follows_by opening design u s known p is event.TakeJob refl (event_comes opening design u s known p is event.TakeJob tt)
-event_follows opening design u s known p is (event.Book finding) = follows_by opening design u s known p is (event.Book finding) refl (event_comes opening design u s known p is (event.Book finding) tt)
+event_follows opening design u s known p is (event.End order) = end_case opening design u s known p is order (user_of s.policy.members order.user) refl
+event_follows opening design u s known p is (event.Halt order) = follows_by opening design u s known p is (event.Halt order) refl refl (event_comes opening design u s known p is (event.Halt order) tt)
+event_follows opening design u s known p is (event.Step k) = follows_by opening design u s known p is (event.Step k) refl refl (event_comes opening design u s known p is (event.Step k) tt)
+event_follows opening design u s known p is event.Advance = follows_by opening design u s known p is event.Advance refl refl (event_comes opening design u s known p is event.Advance tt)
+event_follows opening design u s known p is event.TakeJob = follows_by opening design u s known p is event.TakeJob refl refl (event_comes opening design u s known p is event.TakeJob tt)
+event_follows opening design u s known p is (event.Book finding) = follows_by opening design u s known p is (event.Book finding) refl refl (event_comes opening design u s known p is (event.Book finding) tt)

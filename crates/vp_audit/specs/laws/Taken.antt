@@ -21,7 +21,7 @@ use Rattle.vp_world.specs.Entries.{Entry}
 use Rattle.vp_world.specs.declared.event.Event.{Event}
 use Rattle.vp_world.specs.declared.event.Event.TheVariants as event
 use Rattle.vp_world.specs.declared.error.WorldError.TheVariants as error
-use Rattle.vp_world.specs.History.{IsLegal, after, entry_of, is_full, next_session, refusal_of, refusal_of_log, refusal_of_open, refusal_of_session, state_after}
+use Rattle.vp_world.specs.History.{IsLegal, after, entry_of, is_full, is_share_used, next_session, refusal_of, refusal_of_log, refusal_of_open, refusal_of_session, state_after}
 use Rattle.vp_world.specs.Worlds.{Opening, State, start}
 use Rattle.vp_answer.specs.OpenSessions.{OpenSessionState, index_of, is_session_within, notified_session}
 use Rattle.vp_replay.specs.Seen.{denied_seen}
@@ -29,11 +29,13 @@ use Rattle.vp_replay.specs.Known.{known_also}
 use Rattle.vp_audit.specs.Openings.{IsRight}
 use Rattle.vp_replay.specs.declared.item.GrantItem.{GrantItem}
 use Rattle.vp_replay.specs.declared.item.Item.{Item}
+use Rattle.vp_replay.specs.declared.item.OrderItem.{OrderItem}
+use Rattle.vp_replay.specs.declared.item.OrderItem.TheVariants.{End, Grant}
 use Rattle.vp_replay.specs.declared.item.OwnEvent.{OwnEvent}
 use Rattle.vp_replay.specs.declared.item.OwnEvent.TheVariants.{Asks, Closes, Opens}
-use Rattle.vp_replay.specs.Parts.{Part, observer_of_part, granted_session, moved_to, part_after, part_after_entry, part_granted, response_in, sessions_after, takes, takes_all, takes_by, with_answer}
+use Rattle.vp_replay.specs.Parts.{Part, observer_of_part, granted_session, moved_to, part_after, part_after_entry, part_granted, part_ordered, response_in, sessions_after, takes, takes_all, takes_by, with_answer}
 use Rattle.vp_replay.specs.Parts.{first_part}
-use Rattle.vp_audit.specs.Projections.{granted_of, item_if, item_of, items_from, known_at_first, known_after, opened_by_reply, own_if, projection, regrant_of}
+use Rattle.vp_audit.specs.Projections.{granted_of, is_end_of, item_if, item_of, items_from, known_at_first, known_after, opened_by_reply, order_by, own_if, projection, regrant_of}
 use Rattle.vp_audit.specs.laws.Cases.{part_stands}
 use Rattle.vp_answer.proofs.Lists.{map_same}
 use Rattle.vp_audit.specs.laws.Events.{IsPartOf, same_number}
@@ -72,7 +74,7 @@ own_within p (Closes id) h = by_index (index_of p.sessions id) where
   by_index None = h
   by_index (Some k) = all_removed (is_session_within (length p.view.nodes)) p.sessions k h
 
--- after what of an entry goes to him, if that is no change of his grants
+-- after what of an entry goes to him, if that is no order of an operator
 entry_within : (p : Part) (own_event : Option OwnEvent) (i : Item) → AreWithin p → AreWithin (part_after_entry p own_event i)
 entry_within p own_event i h =
     all_mapped (is_session_within n) (is_session_within n) (notified_session i.change (unwrap_or i.time p.time)) (λ t e. session_state_due n i.change (unwrap_or i.time p.time) t.session_state e)
@@ -103,18 +105,19 @@ granted_within p g is h =
     count = length g.view.nodes
 
 -- after what of an entry goes to him
-after_within : (p : Part) (i : Item) → ((g : GrantItem) → i.granted ≡ Some g → Renumbers p g) → AreWithin p → AreWithin (part_after p i)
-after_within p i grants h = by_granted i.granted refl where
-  by_granted : (x : Option GrantItem) → i.granted ≡ x → AreWithin (option_map_or (part_granted p) x (part_after_entry p i.own_event i))
-  by_granted None at = entry_within p i.own_event i h
-  by_granted (Some g) at = granted_within p g (grants g at) h
+after_within : (p : Part) (i : Item) → ((g : GrantItem) → i.order ≡ Some (Grant g) → Renumbers p g) → AreWithin p → AreWithin (part_after p i)
+after_within p i grants h = by_order i.order refl where
+  by_order : (x : Option OrderItem) → i.order ≡ x → AreWithin (option_map_or (part_ordered p) x (part_after_entry p i.own_event i))
+  by_order None at = entry_within p i.own_event i h
+  by_order (Some (Grant g)) at = granted_within p g (grants g at) h
+  by_order (Some End) at = refl
 
 -- ---- each event
 
 module _ (opening : Opening) (design : Elaborated) (u : ℕ) (s : State) (known : List Bool) (p : Part) (is : IsPartOf design u s known p) where
   -- what of a change of his grants goes to him
-  grant_renumbers : (e : Event) (g : GrantItem) → (item_at opening u s known e).granted ≡ Some g → Renumbers p g
-  grant_renumbers e g at = by_change (regrant_of u s.policy e) refl where
+  grant_renumbers : (e : Event) (g : GrantItem) → (item_at opening u s known e).order ≡ Some (Grant g) → Renumbers p g
+  grant_renumbers e g at = by_end (is_end_of u s.policy e) refl where
     t : State
     t = after opening s e
 
@@ -145,20 +148,33 @@ module _ (opening : Opening) (design : Elaborated) (u : ℕ) (s : State) (known 
           (moved_within t.run.design.tree (member_at t.policy.members u) known t.run.design.tree.nodes long);
     }
 
-    by_change : (x : Option GrantChange) → regrant_of u s.policy e ≡ x → Renumbers p g
-    by_change None none =
-        let never : None ≡ Some g = sym (ap (option_map (granted_of u s t known (known_after u s t known e))) none) ∙ at in
+    order_is : is_end_of u s.policy e ≡ false → (x : Option GrantChange) → regrant_of u s.policy e ≡ x
+        → (item_at opening u s known e).order ≡ option_map Grant (option_map (granted_of u s t known (known_after u s t known e)) x)
+    order_is no_end x is =
+        ap (λ (b : Bool). order_by b (option_map (granted_of u s t known (known_after u s t known e)) (regrant_of u s.policy e))) no_end
+        ∙ ap (λ (y : Option GrantChange). order_by false (option_map (granted_of u s t known (known_after u s t known e)) y)) is
+
+    by_change : is_end_of u s.policy e ≡ false → (x : Option GrantChange) → regrant_of u s.policy e ≡ x → Renumbers p g
+    by_change no_end None none =
+        let never : None ≡ Some (Grant g) = sym (order_is no_end None none) ∙ at in
         absurd (cc)
-    by_change (Some change) some =
+    by_change no_end (Some change) some =
         let now_is : known_after u s t known e ≡ now = ap (λ x. option_map_or (λ (y : GrantChange). now) x known) some in
-        let there : Some (granted_of u s t known (known_after u s t known e) change) ≡ Some g = sym (ap (option_map (granted_of u s t known (known_after u s t known e))) some) ∙ at in
+        let there : Some (Grant (granted_of u s t known (known_after u s t known e) change)) ≡ Some (Grant g) = sym (order_is no_end (Some change) some) ∙ at in
         let same : granted_of u s t known (known_after u s t known e) change ≡ g = cc in
         subst (Renumbers p) same (subst (λ ks. Renumbers p (granted_of u s t known ks change)) (sym now_is) (by_now change))
 
-  -- a change of grants is taken up
-  takes_change : AreWithin p → (x : Option GrantItem) → ((g : GrantItem) → x ≡ Some g → Renumbers p g) → takes_by p None x ≡ true
+    by_end : (b : Bool) → is_end_of u s.policy e ≡ b → Renumbers p g
+    by_end true ends =
+        let never : Some End ≡ Some (Grant g) = sym (ap (λ (b : Bool). order_by b (option_map (granted_of u s t known (known_after u s t known e)) (regrant_of u s.policy e))) ends) ∙ at in
+        absurd (cc)
+    by_end false no_end = by_change no_end (regrant_of u s.policy e) refl
+
+  -- what an operator orders of him is taken up
+  takes_change : AreWithin p → (x : Option OrderItem) → ((g : GrantItem) → x ≡ Some (Grant g) → Renumbers p g) → takes_by p None x ≡ true
   takes_change h None grants = refl
-  takes_change h (Some g) grants =
+  takes_change h (Some End) grants = refl
+  takes_change h (Some (Grant g)) grants =
       let r = grants g refl in
       both (rises g.moved) (list_all (is_session_within (length g.moved)) p.sessions) r.rise
       (subst (λ (n : ℕ). list_all (is_session_within n) p.sessions ≡ true) (sym r.long) h)
@@ -169,7 +185,7 @@ module _ (opening : Opening) (design : Elaborated) (u : ℕ) (s : State) (known 
   takes_opening full None accepted = absurd (cc)
   takes_opening full (Some v) accepted = by_full (is_full opening s v) refl accepted where
     room : is_full opening s v ≡ false → nat_le 18446744073709551615 (slice_index s.opens v) ≡ false
-    room none = second (nat_le opening.limits.sessions (length s.sessions)) (nat_le 18446744073709551615 (slice_index s.opens v)) none where
+    room none = second (nat_le opening.limits.sessions (length s.sessions) || is_share_used s v) (nat_le 18446744073709551615 (slice_index s.opens v)) none where
       second : (a b : Bool) → (a || b) ≡ false → b ≡ false
       second true b e = absurd (cc)
       second false b e = e
@@ -203,7 +219,9 @@ module _ (opening : Opening) (design : Elaborated) (u : ℕ) (s : State) (known 
   event_taken h full (event.Open name token) accepted = takes_opening full (login_of s.policy.members name token) accepted
   event_taken h full (event.Ask id r) accepted = takes_session id (Asks id r) refl full accepted
   event_taken h full (event.Close id) accepted = takes_session id (Closes id) refl full accepted
-  event_taken h full (event.Grant change) accepted = takes_change h (item_at opening u s known (event.Grant change)).granted (grant_renumbers (event.Grant change))
+  event_taken h full (event.Grant change) accepted = takes_change h (item_at opening u s known (event.Grant change)).order (grant_renumbers (event.Grant change))
+  event_taken h full (event.End order) accepted = takes_change h (item_at opening u s known (event.End order)).order (grant_renumbers (event.End order))
+  event_taken h full (event.Halt order) accepted = refl
   event_taken h full (event.Step k) accepted = refl
   event_taken h full event.Advance accepted = refl
   event_taken h full event.TakeJob accepted = refl
@@ -212,8 +230,8 @@ module _ (opening : Opening) (design : Elaborated) (u : ℕ) (s : State) (known 
 -- ---- logs
 
 -- an item that is none changes nothing, and another is taken up
-item_taken : (p : Part) (own_event : Option OwnEvent) (granted : Option GrantItem) (change : Option Change) (time : Option ℕ) (finished : Option Bool) (race : Option ShownRace) (rest : List Item)
-    → (let i : Item = record { own_event = own_event; granted = granted; change = change; time = time; finished = finished; race = race } in
+item_taken : (p : Part) (own_event : Option OwnEvent) (order : Option OrderItem) (change : Option Change) (time : Option ℕ) (finished : Option Bool) (race : Option ShownRace) (rest : List Item)
+    → (let i : Item = record { own_event = own_event; order = order; change = change; time = time; finished = finished; race = race } in
     takes p i ≡ true → takes_all (part_after p i) rest ≡ true → takes_all p (cons_option (item_if i) rest) ≡ true)
 item_taken p (Some o) g c t f r rest one others = both _ _ one others
 item_taken p None (Some g) c t f r rest one others = both _ _ one others
@@ -242,7 +260,7 @@ items_taken opening design u before (e ∷ log) s known p at is h (formed, accep
     after_within p (item_at opening u s known e.event) (grant_renumbers opening design u s known p is e.event) h in
     let others =
     items_taken opening design u (before ++ e ∷ []) log t now (part_after p (item_at opening u s known e.event)) next (event_follows opening design u s known p is e.event).part within rest in
-    item_taken p i.own_event i.granted i.change i.time i.finished i.race (items_from opening u t now log)
+    item_taken p i.own_event i.order i.change i.time i.finished i.race (items_from opening u t now log)
     (ap (takes p) item ∙ event_taken opening design u s known p is h false e.event accepts)
     (ap (λ x. takes_all (part_after p x) (items_from opening u t now log)) item ∙ others)
 

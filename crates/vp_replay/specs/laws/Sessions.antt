@@ -143,4 +143,5 @@ user_kept observation session_state query.Poll = refl
 user_kept observation session_state (query.Races from) = refl
 user_kept observation session_state (query.Race number) = kept_by session_state (λ x. only_told session_state (reply.Race x)) (race_of observation number) (λ x. refl)
 user_kept observation session_state (query.Run until) = refl
+user_kept observation session_state query.Stop = refl
 user_kept observation session_state query.Time = refl

@@ -296,6 +296,7 @@ module _ (n : ℕ) where
     respond_within s (query.Races from) h = h
     respond_within s (query.Race number) h = told_in s _ _ h
     respond_within s (query.Run until) h = h
+    respond_within s query.Stop h = h
     respond_within s query.Time h = h
 
 -- ---- other numbers

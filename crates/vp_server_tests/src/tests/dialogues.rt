@@ -7,7 +7,7 @@ use std::net::{Net, TcpStream};
 use std::sync::atomic::{AtomicU32, Ordering};
 use std::thread;
 use std::time::{Clock, Duration};
-use vp_hub::{Report, Settings};
+use vp_hub::{Report, ServerEvent, Settings};
 use vp_race::{Gate, OpenGate};
 
 /// The three requests of a short session, and their replies.
@@ -43,6 +43,10 @@ struct Held<R> {
 
 impl<R> Report for Held<R> {
     fn goes_round(&self, _process: &str) {}
+
+    fn happened(&self, _address: &str, _event: ServerEvent<'_>) {}
+
+    fn wake(&self) {}
 }
 
 impl<R: Clock> Gate for Held<R> {

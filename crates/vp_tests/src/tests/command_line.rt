@@ -67,11 +67,13 @@ fn asked(alloc: Global, line: &str) -> &'static str {
                 workers,
                 sessions,
                 keep,
+                log,
             },
-        ) if design == "d.v" && policy == "p.json" => match (port, workers, sessions, keep) {
-            (7, 2, 0, false) => "serve",
-            (7, 2, 0, true) => "serve kept",
-            (65_535, 16, 4_294_967_295, false) => "serve most",
+        ) if design == "d.v" && policy == "p.json" => match (port, workers, sessions, keep, log) {
+            (7, 2, 0, false, false) => "serve",
+            (7, 2, 0, true, false) => "serve kept",
+            (7, 2, 0, false, true) => "serve logged",
+            (65_535, 16, 4_294_967_295, false, false) => "serve most",
             _ => "serve other",
         },
         Ok(Command::Show(_)) => "show",
@@ -82,7 +84,7 @@ fn asked(alloc: Global, line: &str) -> &'static str {
 
 #[test]
 fn command_lines(rt: HostRuntime) {
-    let rows: [(&str, &str); 38] = [
+    let rows: [(&str, &str); 39] = [
         ("vp_served", "bundle"),
         ("vp_served run d.v p.json", "run"),
         ("vp_served run d.v p.json --seeds 16", "run"),
@@ -115,6 +117,7 @@ fn command_lines(rt: HostRuntime) {
         ("vp_served audit d.v p.json ann q", "misuse"),
         ("vp_served serve d.v p.json --port 7", "serve"),
         ("vp_served serve d.v p.json --port 7 --keep", "serve kept"),
+        ("vp_served serve d.v p.json --port 7 --log", "serve logged"),
         (
             "vp_served serve d.v p.json --port=65535 --workers 16 --sessions 4294967295",
             "serve most",

@@ -1,10 +1,12 @@
-use Rattle.std.proofs.Common.{◌≡◌, Result, IfOk, subst, sym}
+use Rattle.std.proofs.Common.{◌≡◌, Result, IfOk, refl, subst, sym}
 use Rattle.vp_vpi.specs.Observers.{Observer}
 use Rattle.vp_vpi.specs.SessionStates.{SessionState}
 use Rattle.vp_answer.specs.declared.answering.Answer.{Answer}
+use Rattle.vp_answer.specs.declared.goal.GoalChange.{GoalChange}
+use Rattle.vp_answer.specs.declared.goal.GoalChange.TheVariants.{Ends, RisesTo}
 use Rattle.vp_answer.specs.declared.query.Query.{Query}
 use Rattle.vp_answer.specs.declared.query.Query.TheVariants as query
-use Rattle.vp_answer.specs.Answers.{respond}
+use Rattle.vp_answer.specs.Answers.{Response, respond, steering}
 use Rattle.vp_answer.specs.Given.{IsGiven}
 use Rattle.vp_answer.proofs.answering.respond.Goals as goal
 
@@ -36,11 +38,23 @@ returns-in-Poll-clause-given g c =
     let observation = g.E.Observe.observer c.args.observation.now in
     same_given observation c.args.session.now c.poll.new.session c.args.query.now query.Poll c.poll.result c.in-Poll.is (c.poll.ensures.given observation)
 
+-- of a change of the goal
+steered : (observation : Observer) (session_state : SessionState) (asked r : Query) (change : GoalChange) (a : Answer) → asked ≡ r → respond observation session_state r ≡ steering observation session_state change
+    → IsGiven (steering observation session_state change) session_state a → IsGiven (respond observation session_state asked) session_state a
+steered observation session_state asked r change a is steers given =
+    same_answer observation session_state session_state asked r a is (subst (λ (due : Response). IsGiven due session_state a) (sym steers) given)
+
 pub returns-in-Run-clause-given : goal.returns-in-Run-clause-given
 returns-in-Run-clause-given g c =
     let observation = g.E.Observe.observer c.args.observation.now in
     let session_state = c.args.session.now in
-    same_answer observation session_state session_state c.args.query.now (query.Run c.in-Run.until) c.let_run.result c.in-Run.is (c.let_run.ensures session_state)
+    steered observation session_state c.args.query.now (query.Run c.in-Run.until) (RisesTo c.in-Run.until) c.steer.result c.in-Run.is refl (c.steer.ensures session_state)
+
+pub returns-in-Stop-clause-given : goal.returns-in-Stop-clause-given
+returns-in-Stop-clause-given g c =
+    let observation = g.E.Observe.observer c.args.observation.now in
+    let session_state = c.args.session.now in
+    steered observation session_state c.args.query.now query.Stop Ends c.steer-in-Stop.result c.in-Stop.is refl (c.steer-in-Stop.ensures session_state)
 
 pub returns-in-Time-clause-given : goal.returns-in-Time-clause-given
 returns-in-Time-clause-given g c =

@@ -1,9 +1,10 @@
 use Rattle.std.proofs.Common.{◌≡◌, ◌∙◌, ℕ, ap, sym, subst}
 use Rattle.vp_policy.specs.Users.{member_at}
+use Rattle.vp_world.specs.declared.event.Event.{Event}
 use Rattle.vp_world.specs.declared.event.Event.TheVariants as event
 use Rattle.vp_world.specs.Entries.{Entry, event_in}
 use Rattle.vp_world.specs.History.{refusal_of}
-use Rattle.vp_audit.specs.Projections.{change_seen, other_flag, other_number, race_of_event}
+use Rattle.vp_audit.specs.Projections.{change_seen, is_end_of, other_flag, other_number, race_of_event}
 use Rattle.vp_audit.specs.Readings.{LogReader}
 use Rattle.vp_audit.proofs.EntryReading.{Leaves, grant_leaves, no_grant, other_leaves, reads_by}
 use Rattle.vp_audit.proofs.Following.{IsNoGrant}
@@ -28,9 +29,11 @@ returns-clause-item c opening s known reads goes =
           (subst IsNoGrant (ap (λ (x : Entry). x.event) c.entry.view_is) (no_grant c.entry.inside.happening w.in_default.not-Grant))
           c.match-entry.granted c.match-entry.self w.granted-is (w.self-is ∙ reads)
     ] in
-    reads_by opening u s known e goes c.in_ok-own_event.own_event c.match-entry.granted c.change-change.result c.other_number-time.result c.other_flag-finished.result c.in_ok-race.race
+    reads_by opening u s known e goes c.in_ok-own_event.own_event c.is_end-is_end.result c.match-entry.granted c.order_by.result c.change-change.result c.other_number-time.result c.other_flag-finished.result c.in_ok-race.race
     c.match-entry.self c.follow.new.self c.item_if.result
-    c.item_if.ensures (c.in_ok-follow.ensures {u = tt}) leaves (c.in_ok-own_event.ensures {u = tt})
+    c.item_if.ensures (c.in_ok-follow.ensures {u = tt}) leaves c.order_by.ensures
+    (c.is_end-is_end.ensures ∙ ap (λ (x : Event). is_end_of r.user r.policy x) (ap (λ (x : Entry). x.event) c.entry.view_is) ∙ ap (λ (x : LogReader). is_end_of u x.policy e.event) reads)
+    (c.in_ok-own_event.ensures {u = tt})
     (c.change-change.ensures ∙ ap (λ (x : LogReader). change_seen x.design.tree (member_at x.policy.members u) x.known e.change) reads)
     (c.other_number-time.ensures ∙ ap (λ (x : LogReader). other_number x.time c.entry.inside.time) (c.self.view_is ∙ reads) ∙ ap (λ (x : Entry). other_number s.run.time x.time) c.entry.view_is)
     (c.other_flag-finished.ensures ∙ ap (λ (x : LogReader). other_flag x.finished c.entry.inside.finished) (c.self.view_is ∙ reads) ∙ ap (λ (x : Entry). other_flag s.run.finished x.finished) c.entry.view_is)

@@ -60,11 +60,11 @@ returns-clause-after c =
     ∙ ap (λ time. noticed answer.change time c.deref_mut.result.now) (c.time-time.ensures ∙ ap (λ (s : sim.State). s.time) c.simulation.ensures)
     ∙ ap (noticed answer.change next.simulation.time) c.deref_mut.ensures.value in
     let v = with_item inside.sessions c.args.index c.answer_query.new.session in
-    ap (λ items. shown next inside.book.races inside.opening_policy.value inside.policy inside.limits items inside.opens.items c.raised-self-inside.result) (with_items_is v c.notify.new.sessions (search rules))
+    ap (λ items. shown next inside.book.races inside.opening_policy.value inside.policy inside.limits items inside.opens.items c.goal_after-self-inside.result) (with_items_is v c.notify.new.sessions (search rules))
     ∙ state_given inside.run inside.book inside.opening_policy.value inside.policy inside.limits inside.sessions.items inside.opens.items inside.goal c.args.index session c.args.query.now c.args.self.now c.self.view_is c.requires c.index_mut-session.ensures.value
-    next c.answer_query.new.session c.notify.new.sessions c.raised-self-inside.result answer
+    next c.answer_query.new.session c.notify.new.sessions c.goal_after-self-inside.result answer
     (c.in_ok-answer.ensures {u = tt}).given c.answer_query.ensures.id
-    c.raised-self-inside.ensures tells
+    c.goal_after-self-inside.ensures tells
 
 pub invariant_of-self-2 : goal.invariant_of-self-2
 invariant_of-self-2 c =
