@@ -18,6 +18,10 @@ its handles are for one thread at a time.
     python3 -m loddrume wave --server HOST:PORT --user USER UNTIL FILE        what the user may watch, as a VCD file (clause 18)
     python3 -m loddrume races --server HOST:PORT --user USER [UNTIL]          the races that the user is shown, both orders side by side
     python3 -m loddrume grant --server HOST:PORT --user USER ENVELOPE ACCESS  what a user is granted from now on, by the operator's token
+    python3 -m loddrume stop --server HOST:PORT                               lets the design stand still, by the operator's token
+    python3 -m loddrume end --server HOST:PORT USER                           ends a user's open sessions, by the operator's token
+    python3 -m loddrume status --server HOST:PORT                             how the server stands, by the operator's token
+    python3 -m loddrume shutdown --server HOST:PORT                           ends the server, by the operator's token
 
 The token is read from the environment's LODDRUME_TOKEN, or asked for. `--files DESIGN POLICY` in place of `--server` starts `vp_served run`.
 `--names FILE` is the map of a design that was lowered: names are those of the original then (docs/REAL-DESIGNS.md).
@@ -183,9 +187,35 @@ class Server:
 
     def grant(self, token: str, user: str, envelope: int, access: str) -> None:
         """Changes a grant as `Session.grant` does, by a connection without a session."""
+        with self._unopened() as session:
+            session.grant(token, user, envelope, access)
+
+    def end_user(self, token: str, user: str) -> None:
+        """Ends a user's open sessions as `Session.end_user` does, by a connection without a session."""
+        with self._unopened() as session:
+            session.end_user(token, user)
+
+    def stop(self, token: str) -> None:
+        """Lets the design stand still as `Session.stop` does, by the operator's token and a connection without a session."""
+        with self._unopened() as session:
+            session.stop(token)
+
+    def status(self, token: str) -> "Status":
+        """How the server stands, as `Session.status` gives it, by a connection without a session."""
+        with self._unopened() as session:
+            return session.status(token)
+
+    def shut_down(self, token: str) -> None:
+        """Ends the server as `Session.shut_down` does, by a connection without a session."""
+        with self._unopened() as session:
+            session.shut_down(token)
+
+    @contextlib.contextmanager
+    def _unopened(self) -> Iterator["Session"]:
+        """A connection on which nobody has opened a session; it is let go of at the end."""
         session = Session(self._connected())
         try:
-            session.grant(token, user, envelope, access)
+            yield session
         finally:
             session.end()
 
@@ -339,6 +369,30 @@ class Orders:
     race: Race
     first: List[str]
     second: List[str]
+
+
+@dataclass(frozen=True)
+class Status:
+    """How a server stands, as its operator is shown it.
+
+    `version` is the program's; `time` the current time, in time units; `running` whether the design has something to do and may do it; `entries` how
+    many the log has had, `held` how many of them it still holds, and `bytes` how many the texts of these take; `jobs` how many parts of the run wait
+    to be searched for races; `races` how many were found; `connections` how many are open, that of the request among them; `denials` and
+    `wrong_tokens` how many there were since the server began; `sessions` how many each user of the policy has open.
+    """
+
+    version: str
+    time: int
+    running: bool
+    entries: int
+    held: int
+    bytes: int
+    jobs: int
+    races: int
+    connections: int
+    denials: int
+    wrong_tokens: int
+    sessions: Dict[str, int]
 
 
 @dataclass(frozen=True)
@@ -521,6 +575,13 @@ class Session:
                 since = clock.monotonic()
         return now
 
+    def stop(self, token: Optional[str] = None) -> None:
+        """Lets the design stand still until somebody asks for a run again. Needs the policy's run flag, or else the operator's token.
+
+        Raises `Refused` where a token is given: `bad operator`, `log full`, `no memory`.
+        """
+        self.request("stop", token=token)
+
     def now(self) -> Now:
         """vpi_get_time, and whether `$finish` was executed."""
         reply = self.request("time")
@@ -561,6 +622,37 @@ class Session:
         Access is rights joined by `+`, or empty. Raises `Refused`: `bad operator`, `no such user`, `no such envelope`, `bad request` for an access.
         """
         self.request("grant", token=token, user=user, envelope=envelope, access=access)
+
+    def end_user(self, token: str, user: str) -> None:
+        """Ends all open sessions of a user, by the operator's token. He may open others.
+
+        A request of such a session raises `Refused`, `not open`; then the server closes its connection, and later ones raise `Disconnected`. Where
+        nothing is asked it is closed some seconds later. Raises `Refused`: `bad operator`, `no such user`, `log full`, `no memory`.
+        """
+        self.request("end", token=token, user=user)
+
+    def status(self, token: str) -> Status:
+        """How the server stands, by the operator's token. Raises `Refused`: `bad operator`, `no memory`, and `bad request` of a `Program`."""
+        reply = self.request("status", token=token)
+        world = reply["world"]
+        return Status(
+            version=reply["version"],
+            time=world["time"],
+            running=world["running"],
+            entries=world["entries"],
+            held=world["held"],
+            bytes=world["bytes"],
+            jobs=world["jobs"],
+            races=world["races"],
+            connections=reply["connections"],
+            denials=reply["denials"],
+            wrong_tokens=reply["wrong_tokens"],
+            sessions={user["user"]: user["sessions"] for user in world["sessions"]},
+        )
+
+    def shut_down(self, token: str) -> None:
+        """Ends the server, by the operator's token. Raises `Refused`: `bad operator`, and `bad request` of a `Program`."""
+        self.request("shutdown", token=token)
 
 
 # ---- waves
@@ -732,6 +824,9 @@ def side_by_side(orders: Orders) -> str:
 
 # ---- commands
 
+_OPERATORS = ("grant", "stop", "end", "status", "shutdown")
+"""The commands that ask as the operator, and open no session."""
+
 
 class Shell(cmd.Cmd):
     """A prompt over a session. Names are completed by what `iterate` shows the user, and denials are put into words."""
@@ -819,6 +914,10 @@ class Shell(cmd.Cmd):
         """run TIME: lets the design run until a time, and waits for it"""
         self._say_now(self._session.run_until(int(line)))
 
+    def do_stop(self, _: str) -> None:
+        """stop: lets the design stand still until somebody asks for a run again"""
+        self._session.stop()
+
     def do_time(self, _: str) -> None:
         """time: the current time"""
         self._say_now(self._session.now())
@@ -893,15 +992,16 @@ def _number(text: str) -> int:
     return int(text)
 
 
-def _with_words(parser: argparse.ArgumentParser, has_files: bool = True) -> argparse.ArgumentParser:
-    """The words that all commands have; those that open a session may do so over files."""
+def _with_words(parser: argparse.ArgumentParser, has_files: bool = True, has_user: bool = True) -> argparse.ArgumentParser:
+    """The words that all commands have; those that open a session may do so over files, and some need no user."""
     where = parser.add_mutually_exclusive_group(required=True)
     where.add_argument("--server", type=_address, metavar="HOST:PORT", help="a server: vp_served serve, or a proxy before it")
     if has_files:
         where.add_argument("--files", nargs=2, metavar=("DESIGN", "POLICY"), help="a run of one's own: vp_served run")
         parser.add_argument("--program", default="vp_served", help="the program that --files starts")
         parser.add_argument("--names", metavar="FILE", help="the map that loddrume_lower wrote: names are those of the original")
-    parser.add_argument("--user", required=True, help="the name of a user of the policy")
+    if has_user:
+        parser.add_argument("--user", required=True, help="the name of a user of the policy")
     parser.add_argument("--still", type=float, default=0.1, metavar="SECONDS", help="how long the time stays the same where a run is over (0.1)")
     parser.add_argument("--ca", metavar="FILE", help="speaks TLS with a server whose certificate is signed by one in this file")
     parser.add_argument("--cert", metavar="FILE", help="with --ca: one's own certificate and its key, in one file")
@@ -927,6 +1027,11 @@ def _parser() -> argparse.ArgumentParser:
     grant = _with_words(commands.add_parser("grant", help="changes what a user is granted, by the operator's token"), has_files=False)
     grant.add_argument("ENVELOPE", type=_number)
     grant.add_argument("ACCESS", help='such as list+read, or ""')
+    _with_words(commands.add_parser("stop", help="lets the design stand still, by the operator's token"), has_files=False, has_user=False)
+    end = _with_words(commands.add_parser("end", help="ends a user's open sessions, by the operator's token"), has_files=False, has_user=False)
+    end.add_argument("USER", help="the name of a user of the policy")
+    _with_words(commands.add_parser("status", help="prints how the server stands, by the operator's token"), has_files=False, has_user=False)
+    _with_words(commands.add_parser("shutdown", help="ends the server, by the operator's token"), has_files=False, has_user=False)
     return parser
 
 
@@ -968,6 +1073,30 @@ def _print_races(session: Session, until: Optional[int]) -> None:
         print(side_by_side(session.race(race.number)))
 
 
+def _print_status(status: Status) -> None:
+    """Prints how a server stands: a line for each name and its value, and then one for each user who has sessions open."""
+    for name, value in vars(status).items():
+        if name != "sessions":
+            print(name, json.dumps(value) if name == "running" else value)
+    for user, count in status.sessions.items():
+        if count > 0:
+            print("sessions", user, count)
+
+
+def _ask_as_operator(server: Server, token: str, asked: argparse.Namespace) -> None:
+    """Does a command of the operator."""
+    if asked.command == "grant":
+        server.grant(token, asked.user, asked.ENVELOPE, asked.ACCESS)
+    elif asked.command == "stop":
+        server.stop(token)
+    elif asked.command == "end":
+        server.end_user(token, asked.USER)
+    elif asked.command == "status":
+        _print_status(server.status(token))
+    else:
+        server.shut_down(token)
+
+
 def _run_shell(session: Session) -> None:
     with contextlib.suppress(ImportError):
         import readline  # Takes up the line editing of `input`.
@@ -990,8 +1119,8 @@ def main(words: Optional[List[str]] = None) -> int:
     asked = _parser().parse_args(words)
     try:
         token = _token()
-        if asked.command == "grant":
-            _server(asked).grant(token, asked.user, asked.ENVELOPE, asked.ACCESS)
+        if asked.command in _OPERATORS:
+            _ask_as_operator(_server(asked), token, asked)
             return 0
         names = NameMap.read(asked.names) if asked.names else None
         with _source(asked).open(asked.user, token) as session:

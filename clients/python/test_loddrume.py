@@ -23,7 +23,7 @@ from typing import Callable, Dict, Iterator, List, Tuple
 from unittest import mock
 
 import loddrume
-from loddrume import Denied, Disconnected, LoddrumeError, LostNotices, Now, Program, Refused, Server, Session, Shell, wave
+from loddrume import Denied, Disconnected, LoddrumeError, LostNotices, Now, Program, Refused, Server, Session, Shell, Status, wave
 
 HERE = Path(__file__).resolve().parent
 TOP = HERE.parents[1]
@@ -41,6 +41,8 @@ RACING = """{"users":[
   {"name":"ann","token":"t1","open":"list+read+watch+put+race","run":true},
   {"name":"bob","token":"t2","open":"list+read+watch"}
 ],"operator":"op"}"""
+CLOCK = "module top; reg clk; initial begin clk = 0; forever #1 clk = ~clk; end endmodule\n"
+FAR = 1 << 60
 MANY = """module top; reg [15:0] i; reg done;
 initial begin done = 0; #3 for (i = 0; i < 5000; i = i + 1) ; #1 done = 1; end
 endmodule
@@ -532,6 +534,197 @@ class Commands(Asking):
             self.assertIn(told, printed.getvalue())
 
 
+# ---- the operator
+
+OK = '{"ok":true}'
+BAD_OPERATOR = '{"error":"bad operator"}'
+RUN_DENIED = '{"denied":{"author":"","by":"grant","no":0,"right":"run"}}'
+STATUS = (
+    '{"connections":4,"denials":6,"version":"0.1.0","world":{"bytes":40,"entries":12,"held":7,"jobs":1,"races":3,"running":true,'
+    '"sessions":[{"sessions":2,"user":"ann"},{"sessions":0,"user":"bob"}],"time":5},"wrong_tokens":0}'
+)
+STANDS = Status(
+    version="0.1.0",
+    time=5,
+    running=True,
+    entries=12,
+    held=7,
+    bytes=40,
+    jobs=1,
+    races=3,
+    connections=4,
+    denials=6,
+    wrong_tokens=0,
+    sessions={"ann": 2, "bob": 0},
+)
+# What the operator asks of a server, the line for it, and what that is answered.
+ORDERS: List[Tuple[Callable[[Server], object], Dict[str, object], str]] = [
+    (lambda server: server.grant("op", "bob", 0, "list"), {"op": "grant", "token": "op", "user": "bob", "envelope": 0, "access": "list"}, OK),
+    (lambda server: server.stop("op"), {"op": "stop", "token": "op"}, OK),
+    (lambda server: server.end_user("op", "ann"), {"op": "end", "token": "op", "user": "ann"}, OK),
+    (lambda server: server.status("op"), {"op": "status", "token": "op"}, STATUS),
+    (lambda server: server.shut_down("op"), {"op": "shutdown", "token": "op"}, OK),
+]
+
+
+class MadeUp:
+    """Lines that answer one thing after another, whatever is asked."""
+
+    def __init__(self, *answers: str) -> None:
+        self.asked: List[Dict[str, object]] = []
+        self.has_ended = False
+        self._answers = iter(answers)
+
+    def ask(self, line: str) -> str:
+        self.asked.append(json.loads(line))
+        return next(self._answers)
+
+    def end(self) -> None:
+        self.has_ended = True
+
+
+class Operating(Asking):
+    """What the operator asks, and what a user may ask beside him, over lines that are made up."""
+
+    @contextlib.contextmanager
+    def connected(self, *answers: str) -> Iterator[MadeUp]:
+        """Lines in place of a connection to a server, which is let go of."""
+        lines = MadeUp(*answers)
+        with mock.patch.object(Server, "_connected", return_value=lines):
+            yield lines
+        self.assertTrue(lines.has_ended)
+
+    def ordered(self, *words: str, answer: str = OK, status: int = 0) -> Tuple[List[Dict[str, object]], str]:
+        """What a command of the operator asks, and what it prints."""
+        with self.connected(answer) as lines:
+            printed = self.command(words[0], "--server", ":7000", *words[1:], token="op", status=status)
+        return lines.asked, printed
+
+    def test_a_stop_of_a_session(self) -> None:
+        lines = MadeUp(OK, OK, RUN_DENIED)
+        session = Session(lines)
+        session.stop()
+        session.stop("op")
+        with self.assertRaisesRegex(Denied, "you lack the right run: the policy does not let you run the design"):
+            session.stop()
+        self.assertEqual(lines.asked, [{"op": "stop"}, {"op": "stop", "token": "op"}, {"op": "stop"}])
+
+    def test_a_stop_in_the_shell(self) -> None:
+        lines, printed = MadeUp(OK, RUN_DENIED), io.StringIO()
+        Shell(Session(lines), io.StringIO("stop\nstop\nquit\n"), printed).cmdloop("")
+        self.assertEqual(lines.asked, [{"op": "stop"}] * 2)
+        told = printed.getvalue().replace(Shell.prompt, "").split("\n")
+        self.assertEqual([line for line in told if line], ["you lack the right run: the policy does not let you run the design"])
+
+    def test_orders(self) -> None:
+        for order, asked, answer in ORDERS:
+            with self.subTest(asked["op"]), self.connected(answer) as lines:
+                order(Server(7000))
+                self.assertEqual(lines.asked, [asked])
+
+    def test_a_wrong_token(self) -> None:
+        for order, asked, _ in ORDERS:
+            with self.subTest(asked["op"]), self.connected(BAD_OPERATOR), self.assertRaisesRegex(Refused, "bad operator"):
+                order(Server(7000))
+
+    def test_how_a_server_stands(self) -> None:
+        with self.connected(STATUS):
+            self.assertEqual(Server(7000).status("op"), STANDS)
+        self.assertEqual(Session(MadeUp(STATUS)).status("op"), STANDS)
+
+    def test_commands(self) -> None:
+        for words, asked in [
+            (["stop"], {"op": "stop", "token": "op"}),
+            (["end", "ann"], {"op": "end", "token": "op", "user": "ann"}),
+            (["shutdown"], {"op": "shutdown", "token": "op"}),
+        ]:
+            with self.subTest(words[0]):
+                self.assertEqual(self.ordered(*words), ([asked], ""))
+                self.assertEqual(self.ordered(*words, answer=BAD_OPERATOR, status=1), ([asked], "loddrume: bad operator\n"))
+
+    def test_the_command_status(self) -> None:
+        asked, printed = self.ordered("status", answer=STATUS)
+        self.assertEqual(asked, [{"op": "status", "token": "op"}])
+        self.assertEqual(
+            printed.splitlines(),
+            [
+                "version 0.1.0",
+                "time 5",
+                "running true",
+                "entries 12",
+                "held 7",
+                "bytes 40",
+                "jobs 1",
+                "races 3",
+                "connections 4",
+                "denials 6",
+                "wrong_tokens 0",
+                "sessions ann 2",
+            ],
+        )
+
+    def test_words_that_ask_nothing(self) -> None:
+        for words, told in [
+            (["end", "--server", ":7000"], "the following arguments are required: USER"),
+            (["stop"], "one of the arguments --server is required"),
+            (["status", "--server", ":7000", "--token", "op"], "unrecognized arguments: --token op"),
+            (["shutdown", "--server", ":7000", "op"], "unrecognized arguments: op"),
+        ]:
+            with contextlib.redirect_stderr(io.StringIO()) as printed, self.assertRaises(SystemExit) as ended:
+                loddrume.main(words)
+            self.assertEqual(ended.exception.code, 2)
+            self.assertIn(told, printed.getvalue())
+
+    def test_a_session_that_the_operator_ended(self) -> None:
+        """A server that answers so, once, and closes the connection."""
+        listener = socket.create_server(("127.0.0.1", 0))
+        self.addCleanup(listener.close)
+
+        def answer() -> None:
+            connection, _ = listener.accept()
+            with connection, connection.makefile("rw", encoding="utf-8", newline="\n") as stream:
+                for reply in (OK, '{"error":"not open"}'):
+                    stream.readline()
+                    stream.write(reply + "\n")
+                    stream.flush()
+
+        answering = threading.Thread(target=answer)
+        answering.start()
+        with Server(listener.getsockname()[1], timeout=10).open("ann", "t1") as session:
+            with self.assertRaisesRegex(Refused, "^not open$"):
+                session.time()
+            answering.join()
+            for _ in range(3):
+                with self.assertRaises(Disconnected):
+                    session.time()
+
+
+class OperatingAScript(Asking):
+    """What the operator may ask in a script, which has no server."""
+
+    def test_orders(self) -> None:
+        session = self.open()
+        for order in (session.status, session.shut_down):
+            with self.assertRaisesRegex(Refused, "^bad request$"):
+                order("op")
+        session.run(10)
+        session.stop()
+        session.stop("op")
+        with self.assertRaisesRegex(Refused, "^bad operator$"):
+            session.stop("no")
+        with self.assertRaisesRegex(Refused, "^no such user$"):
+            session.end_user("op", "carl")
+        session.end_user("op", "bob")
+        self.assertEqual(session.time(), 5)
+        session.end_user("op", "ann")
+        with self.assertRaisesRegex(Refused, "^not open$"):
+            session.time()
+
+    def test_a_stop_of_who_may_not_run(self) -> None:
+        with self.assertRaisesRegex(Denied, "you lack the right run: the policy does not let you run the design"):
+            self.open("bob", "t2").stop()
+
+
 # ---- a server
 
 
@@ -588,6 +781,99 @@ class Serving(Asking):
                     clock.get_value()
                 Server(port).grant("op", "bob", 0, "list+read")
                 self.assertEqual(clock.get_value(), "x")
+
+    def test_a_user_whose_sessions_are_ended(self) -> None:
+        """By the command, and on a connection of his own; he may open another session."""
+        with serving(self, self.design, self.policy, 6) as port:
+            where = ["--server", f"127.0.0.1:{port}"]
+            with Server(port).open("ann", "t1") as ann, Server(port).open("bob", "t2") as bob:
+                self.assertEqual(self.command("end", *where, "ann", token="wrong", status=1), "loddrume: bad operator\n")
+                self.assertEqual(self.command("end", *where, "carl", token="op", status=1), "loddrume: no such user\n")
+                self.assertEqual(ann.time(), 0)
+                self.assertEqual(self.command("end", *where, "ann", token="op"), "")
+                self.check_ended(ann)
+                self.assertEqual(bob.time(), 0)
+                bob.end_user("op", "bob")
+                self.check_ended(bob)
+            with Server(port).open("ann", "t1") as ann:
+                self.assertEqual(ann.time(), 0)
+
+    def check_ended(self, session: Session) -> None:
+        """A session is not open, which is answered once, and then its connection is closed."""
+        with self.assertRaisesRegex(Refused, "^not open$"):
+            session.time()
+        with self.assertRaises(Disconnected):
+            session.time()
+
+    def test_a_run_that_is_stopped(self) -> None:
+        """By the operator, on a connection of his own, on that of a user and by the command; and by a user who may run."""
+        self.write(CLOCK, RACING)
+        with serving(self, self.design, self.policy, 4) as port:
+            with Server(port).open("ann", "t1") as ann, Server(port).open("bob", "t2") as bob:
+                stops: List[Callable[[], object]] = [
+                    lambda: Server(port).stop("op"),
+                    lambda: bob.stop("op"),
+                    lambda: self.command("stop", "--server", f"127.0.0.1:{port}", token="op"),
+                    ann.stop,
+                ]
+                for stop in stops:
+                    began, deadline = ann.time(), time.monotonic() + 30
+                    ann.run(FAR)
+                    while ann.time() == began and time.monotonic() < deadline:
+                        time.sleep(0.01)
+                    with self.assertRaisesRegex(Denied, "you lack the right run"):
+                        bob.stop()
+                    self.assertTrue(bob.status("op").running)
+                    stop()
+                    stopped = ann.now()
+                    self.assertGreater(stopped.time, began)
+                    self.assertLess(stopped.time, FAR)
+                    time.sleep(0.2)
+                    self.assertEqual(ann.now(), stopped)
+                    self.assertFalse(bob.status("op").running)
+                until = ann.time() + 10
+                self.assertEqual(ann.run_until(until, still=1), Now(until, False))
+
+    def test_how_a_server_stands(self) -> None:
+        with serving(self, self.design, self.policy, 4) as port:
+            with Server(port, still=1).open("ann", "t1") as ann:
+                with Server(port).open("bob", "t2") as bob:
+                    with self.assertRaises(Denied):
+                        bob.run(10)
+                    with self.assertRaisesRegex(Refused, "bad operator"):
+                        bob.status("wrong")
+                    ann.run_until(10)
+                    stands, deadline = bob.status("op"), time.monotonic() + 30
+                    while not stands.races and time.monotonic() < deadline:
+                        # The workers find races a little after the run.
+                        time.sleep(0.05)
+                        stands = bob.status("op")
+                    self.assertEqual((stands.connections, stands.denials, stands.wrong_tokens), (2, 1, 1))
+                    self.assertEqual((stands.time, stands.running, stands.sessions), (5, False, {"ann": 1, "bob": 1}))
+                    self.assertGreaterEqual(stands.races, 1)
+                    self.assertGreaterEqual(stands.jobs, 0)
+                    self.assertGreater(stands.held, 0)
+                    self.assertGreaterEqual(stands.entries, stands.held)
+                    self.assertGreater(stands.bytes, 0)
+                    self.assertRegex(stands.version, "^[0-9]+[.][0-9]+[.][0-9]+")
+                    self.assertEqual(Server(port).status("op").connections, 3)
+                printed = self.command("status", "--server", f"127.0.0.1:{port}", token="op").splitlines()
+        names = list(vars(stands))[:-1]
+        self.assertEqual([line.split()[0] for line in printed[:-1]], names)
+        self.assertIn("running false", printed)
+        self.assertEqual(printed[-1], "sessions ann 1")
+
+    def test_a_server_that_is_shut_down(self) -> None:
+        """It ends long before its last connection, by status 0 and with `closed` as its last line, and an open session ends with it."""
+        with serving(self, self.design, self.policy, 100) as port:
+            where = ["--server", f"127.0.0.1:{port}"]
+            ann = Server(port).open("ann", "t1")
+            self.addCleanup(ann.end)
+            self.assertEqual(self.command("shutdown", *where, token="wrong", status=1), "loddrume: bad operator\n")
+            self.assertEqual(ann.time(), 0)
+            self.assertEqual(self.command("shutdown", *where, token="op"), "")
+        with self.assertRaises(Disconnected):
+            ann.time()
 
     def test_a_port_that_is_taken(self) -> None:
         with socket.create_server(("127.0.0.1", 0)) as listener:
