@@ -16,6 +16,7 @@ use Rattle.vp_operand.specs.Arena.{sizes_in}
 use Rattle.vp_expr.specs.Tables.{tables_of}
 use Rattle.vp_statement.specs.Effects.{effect_at}
 use Rattle.vp_policy.specs.declared.denial.ShownBarrier.TheVariants as by
+use Rattle.vp_policy.specs.Regrants.{by_number}
 use Rattle.vp_policy.specs.Users.{Member}
 use Rattle.vp_policy.specs.View.{SeenNode, view_of, marked}
 use Rattle.vp_expr.specs.declared.change.Change.{Change}
@@ -118,7 +119,7 @@ abbrev ann : Member
 ann = record { name = codes "ann"; token = codes "t1"; open_set = reading; grants = []; run = false; sessions = 64 }
 
 abbrev bob : Member
-bob = record { name = codes "bob"; token = codes "t2"; open_set = putting; grants = (1, putting) ∷ []; run = false; sessions = 64 }
+bob = record { name = codes "bob"; token = codes "t2"; open_set = putting; grants = by_number 1 putting ∷ []; run = false; sessions = 64 }
 
 abbrev opening : Opening
 opening = record {

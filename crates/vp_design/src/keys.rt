@@ -63,7 +63,53 @@ fn refused_grant(
     Ok(None)
 }
 
-/// Adds the number of the grant at fault, and of one for an envelope that there is not the key of that.
+/// A text as a string of JSON; none for one that is long.
+fn short_quoted(alloc: Global, word: &str) -> Result<Option<String>, AllocError> {
+    let quoted = Value::String(String::from_str(alloc, word)?).to_string(alloc)?;
+    if quoted.len() > 60 {
+        Ok(None)
+    } else {
+        Ok(Some(quoted))
+    }
+}
+
+/// Adds the name of an author.
+fn push_author(alloc: Global, text: &mut String, author: &str) -> Result<(), AllocError> {
+    match short_quoted(alloc, author)? {
+        Some(quoted) => text.push_str(quoted.as_str()),
+        None => text.push_str("a long name"),
+    }
+}
+
+/// Adds why a grant names no envelope: there is none of its number, or none of its author; or that of its number is by another.
+fn push_unnamed(
+    alloc: Global,
+    text: &mut String,
+    grant: &Value,
+    design: &Design,
+) -> Result<(), AllocError> {
+    let Some(author) = vp_json::text(grant, "author") else {
+        return text.push_str(".envelope");
+    };
+    let number = grant.get("envelope").and_then(Value::as_u64);
+    match number {
+        Some(number) if number < 1 || number > u64::from(design.envelope_count()) => {
+            text.push_str(".envelope")
+        }
+        Some(number) => {
+            write!(text, ".author: envelope {number} is by ")?;
+            push_author(alloc, text, design.author(number as u8))?;
+            text.push_str(", not by ")?;
+            push_author(alloc, text, author)
+        }
+        None => {
+            text.push_str(".author: no envelope is by ")?;
+            push_author(alloc, text, author)
+        }
+    }
+}
+
+/// Adds the number of the grant at fault, and of one that names no envelope why.
 fn push_grant(
     alloc: Global,
     text: &mut String,
@@ -79,8 +125,8 @@ fn push_grant(
         return Ok(());
     };
     write!(text, "[{number}]")?;
-    match fault {
-        PolicyError::NoSuchEnvelope => text.push_str(".envelope"),
+    match (fault, grants.as_slice().get(number)) {
+        (PolicyError::NoSuchEnvelope, Some(grant)) => push_unnamed(alloc, text, grant, design),
         _ => Ok(()),
     }
 }
@@ -95,11 +141,9 @@ fn is_key(key: &str) -> bool {
 
 /// Adds a key that is not read, as a string of JSON.
 fn push_unknown(alloc: Global, text: &mut String, key: &str) -> Result<(), AllocError> {
-    let quoted = Value::String(String::from_str(alloc, key)?).to_string(alloc)?;
-    if quoted.len() > 60 {
-        text.push_str(": an unknown key")
-    } else {
-        write!(text, ": unknown key {quoted}")
+    match short_quoted(alloc, key)? {
+        Some(quoted) => write!(text, ": unknown key {quoted}"),
+        None => text.push_str(": an unknown key"),
     }
 }
 

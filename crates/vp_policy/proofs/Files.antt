@@ -9,14 +9,14 @@ use Rattle.vp_policy.specs.declared.error.PolicyError.TheVariants.{BadPolicy}
 use Rattle.vp_policy.specs.File.{file_of, policy_of}
 
 -- a file of which a JSON value is read gives what the value gives
-pub file_of_json : (envelopes : ℕ) (bytes : List ℕ) (d : Data) → IsUtf8 bytes → read bytes ≡ Some d → file_of envelopes bytes ≡ policy_of envelopes d
-file_of_json envelopes bytes d u e = rw (is_utf8-from_IsUtf8 bytes u, e) refl
+pub file_of_json : (authors : List (List ℕ)) (bytes : List ℕ) (d : Data) → IsUtf8 bytes → read bytes ≡ Some d → file_of authors bytes ≡ policy_of authors d
+file_of_json authors bytes d u e = rw (is_utf8-from_IsUtf8 bytes u, e) refl
 
 -- by whether the bytes are UTF-8
-other : (envelopes : ℕ) (bytes : List ℕ) (b : Bool) → is_utf8 bytes ≡ b → (IsUtf8 bytes → read bytes ≡ None) → file_of envelopes bytes ≡ Err BadPolicy
-other envelopes bytes true i h = rw (i, h (IsUtf8-from_is_utf8 bytes i)) refl
-other envelopes bytes false i h = rw i refl
+other : (authors : List (List ℕ)) (bytes : List ℕ) (b : Bool) → is_utf8 bytes ≡ b → (IsUtf8 bytes → read bytes ≡ None) → file_of authors bytes ≡ Err BadPolicy
+other authors bytes true i h = rw (i, h (IsUtf8-from_is_utf8 bytes i)) refl
+other authors bytes false i h = rw i refl
 
 -- a file of which no JSON value is read, where it is UTF-8 at all, is no policy file
-pub file_of_other : (envelopes : ℕ) (bytes : List ℕ) → (IsUtf8 bytes → read bytes ≡ None) → file_of envelopes bytes ≡ Err BadPolicy
-file_of_other envelopes bytes h = other envelopes bytes (is_utf8 bytes) refl h
+pub file_of_other : (authors : List (List ℕ)) (bytes : List ℕ) → (IsUtf8 bytes → read bytes ≡ None) → file_of authors bytes ≡ Err BadPolicy
+file_of_other authors bytes h = other authors bytes (is_utf8 bytes) refl h

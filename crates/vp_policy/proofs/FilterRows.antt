@@ -10,7 +10,8 @@ use Rattle.vp_policy.specs.declared.denial.ShownBarrier.TheVariants as barrier
 use Rattle.vp_policy.specs.declared.denial.DeniedBy.TheVariants as by
 use Rattle.vp_policy.specs.declared.denial.Look.{Look}
 use Rattle.vp_policy.specs.declared.denial.Look.TheVariants as look
-use Rattle.vp_policy.specs.Users.{Member, login_of}
+use Rattle.vp_policy.specs.Regrants.{by_number}
+use Rattle.vp_policy.specs.Users.{GrantEntry, Member, login_of}
 use Rattle.vp_policy.specs.Filter.{closed, denial, is_listed, look_in, run_denial, stops_in}
 
 -- ---- users
@@ -21,14 +22,14 @@ reading = with_right right.Read (with_right right.List nothing)
 abbrev listing : RightSet
 listing = with_right right.List nothing
 
-abbrev user : List ℕ → RightSet → List (ℕ × RightSet) → Member
+abbrev user : List ℕ → RightSet → List GrantEntry → Member
 user name open_set grants = record { name = name; token = codes "t1"; open_set = open_set; grants = grants; run = true; sessions = 64 }
 
 abbrev pub ann : Member
 ann = user (codes "ann") everything []
 
 abbrev pub bob : Member
-bob = user (codes "bob") everything ((1, everything) ∷ [])
+bob = user (codes "bob") everything (by_number 1 everything ∷ [])
 
 abbrev pub cem : Member
 cem = user (codes "cem") listing []
@@ -38,16 +39,16 @@ abbrev without_run : Member
 without_run = record cem { run = false }
 
 abbrev dan : Member
-dan = user (codes "dan") everything ((1, listing) ∷ [])
+dan = user (codes "dan") everything (by_number 1 listing ∷ [])
 
 abbrev pub eve : Member
 eve = user (codes "eve") nothing []
 
 abbrev fay : Member
-fay = user (codes "fay") nothing ((1, everything) ∷ [])
+fay = user (codes "fay") nothing (by_number 1 everything ∷ [])
 
 abbrev hal : Member
-hal = user (codes "hal") everything ((2, listing) ∷ [])
+hal = user (codes "hal") everything (by_number 2 listing ∷ [])
 
 -- ---- answers
 

@@ -1,16 +1,14 @@
 -- The users that are read, and the table in which they stand by their names.
 use Rattle.std.proofs.Common.{◌≡◌, ℕ, Bool, true, false, ◌||◌, List, [], ◌∷◌, ◌++◌, map, Option, Some, None, refl, sym, ap, ◌∙◌, cond}
 use Rattle.std.specs.Prelude.{String, is_some, not, string_bytes}
-use Rattle.std.specs.List.{list_any}
-use Rattle.std.specs.Map.{lookup, values_of}
+use Rattle.std.specs.Map.{lookup}
 use Rattle.std.specs.Str.{bytes_eq}
 use Rattle.std.specs.declared.alloc.Global.{Global}
 use Rattle.std.proofs.lemmas.List.{append_assoc, append-nil, map-append}
 use Rattle.std.proofs.Math.Bool.{or-false}
-use Rattle.vp_text.specs.laws.Searches.{list_any-map}
 use Rattle.vp_policy.specs.declared.policy.User.{User}
-use Rattle.vp_policy.specs.File.{grants_missing, has_user, is_for_missing, is_named_twice}
-use Rattle.vp_policy.specs.Members.{grant_shown, member_of}
+use Rattle.vp_policy.specs.File.{has_user, is_named_twice}
+use Rattle.vp_policy.specs.Members.{member_of}
 use Rattle.vp_policy.specs.Users.{Member}
 
 -- of users that are read, whether each name stands there once, and the entries of the table, where each does
@@ -80,21 +78,3 @@ read_once done false es fs name user so_far new more = record {
   twice = twice_last [] done (member_of (name, user)) ∙ ap (λ (b : Bool). b || has_user done (string_bytes name)) so_far.twice;
   shown = λ h. absurd cc;
 }
-
--- ---- grants for envelopes that are missing
-
--- one of these users has a grant for an envelope that is missing
-abbrev pub missing_in : ℕ → List User → Bool
-missing_in envelopes users = list_any (λ u. is_for_missing envelopes (map grant_shown u.grants)) users
-
--- the values of the table decide
-pub missing_of_values : (envelopes : ℕ) (es : List (String Global × User)) → missing_in envelopes (values_of es) ≡ grants_missing envelopes (map member_of es)
-missing_of_values envelopes es =
-    list_any-map (λ (u : User). is_for_missing envelopes (map grant_shown u.grants)) (λ (e : String Global × User). e.1) es
-    ∙ sym (list_any-map (λ (m : Member). is_for_missing envelopes m.grants) member_of es)
-
--- the first of the users that are left decides, or else those after him
-pub missing_next :
-    (envelopes : ℕ) (users rest : List User) (u : User) (b : Bool) → users ≡ u ∷ rest → b ≡ is_for_missing envelopes (map grant_shown u.grants)
-    → (b || missing_in envelopes rest) ≡ missing_in envelopes users
-missing_next envelopes users rest u b left first = ap (λ (a : Bool). a || missing_in envelopes rest) first ∙ ap (missing_in envelopes) (sym left)

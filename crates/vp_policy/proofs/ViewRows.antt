@@ -15,6 +15,7 @@ use Rattle.vp_elab.specs.declared.object.Kind.TheVariants as kind
 use Rattle.vp_elab.specs.Built.{Elaborated, design_of}
 use Rattle.vp_elab.specs.Elaboration.{further_limit}
 use Rattle.vp_elab.specs.Tree.{Tree}
+use Rattle.vp_policy.specs.declared.grant.GrantedBy.TheVariants as by
 use Rattle.vp_policy.specs.declared.view.SeenObject.{SeenObject}
 use Rattle.vp_policy.specs.SeenObjects.{nodes_from, numbers_from}
 use Rattle.vp_policy.specs.Users.{Member}
@@ -104,7 +105,7 @@ line_of_a_viewport : view_of (of_tree viewport_elsewhere) ann ≡ view_of (of_tr
 line_of_a_viewport = refl
 
 -- the envelope is another's, and she may let the design run
-seen_envelopes_by_ann : (view_of (of_tree instance_design) ann).envelopes ≡ (codes "acme", false) ∷ []
+seen_envelopes_by_ann : (view_of (of_tree instance_design) ann).envelopes ≡ (codes "acme", by.Nothing) ∷ []
 seen_envelopes_by_ann = refl
 
 run_by_ann : (view_of (of_tree instance_design) ann).run ≡ true
@@ -117,7 +118,7 @@ nothing_closed_at_the_top = refl
 seen_by_bob : length (view_of (of_tree instance_design) bob).nodes ≡ 11
 seen_by_bob = refl
 
-seen_envelopes_by_bob : (view_of (of_tree instance_design) bob).envelopes ≡ (codes "acme", true) ∷ []
+seen_envelopes_by_bob : (view_of (of_tree instance_design) bob).envelopes ≡ (codes "acme", by.Number) ∷ []
 seen_envelopes_by_bob = refl
 
 -- a grant for the inner envelope alone shows nothing under the instance that is hidden
@@ -133,7 +134,7 @@ seen_nested = refl
 -- whose open set is empty sees that something is closed, and no object
 seen_by_eve :
     view_of (of_tree instance_design) eve
-    ≡ record { nodes = []; closed_list = 0 ∷ []; envelopes = (codes "acme", false) ∷ []; run = true }
+    ≡ record { nodes = []; closed_list = 0 ∷ []; envelopes = (codes "acme", by.Nothing) ∷ []; run = true }
 seen_by_eve = refl
 
 -- ---- constants

@@ -3,7 +3,6 @@ use Rattle.std.proofs.Common.{◌≡◌, ℕ, zero, suc, ◌+◌, ◌<◌, Bool,
 use Rattle.std.specs.Prelude.{IfSome, if◌then◌else◌, is_some, option_and_then, option_map, unwrap_or}
 use Rattle.std.specs.Option.{option_map_or}
 use Rattle.std.proofs.lemmas.List.{append_assoc, append-nil, length-append, length-map, length-take, map-append, take_more}
-use Rattle.std.proofs.lemmas.List.Elements.{filter-append}
 use Rattle.std.proofs.lemmas.Option.{slice_get-get_or, slice_get-map}
 use Rattle.vp_bits.specs.declared.bit.Bit.{Bit}
 use Rattle.vp_pragma.specs.declared.rights.Right.TheVariants as right
@@ -19,7 +18,8 @@ use Rattle.vp_elab.specs.Tree.{Step, Node, Tree, author_in, declared_envelopes, 
 use Rattle.vp_elab.proofs.LastSteps.{match_there, name_there}
 use Rattle.vp_resolve.specs.Constants.{constant_among, constant_at}
 use Rattle.vp_policy.specs.declared.view.SeenObject.{SeenObject}
-use Rattle.vp_policy.specs.Users.{Member, has_entry}
+use Rattle.vp_policy.specs.declared.grant.GrantedBy.{GrantedBy}
+use Rattle.vp_policy.specs.Users.{Member, entry_of}
 use Rattle.vp_policy.specs.Filter.{closed, is_closed, is_listed, is_listed_at, rights, rights_at}
 use Rattle.vp_policy.specs.View.{HasScope, HoldScopes, SeenNode, SeenStep, SeenViewport, View, is_value_seen, known_nodes, known_view, listed_marks, marked, seen_envelopes, seen_node, seen_path, seen_step, seen_value, seen_viewport, view_of}
 use Rattle.vp_policy.specs.SeenObjects.{node_after, nodes_from, number_in, numbers_from, own_step, path_to, viewport_shown}
@@ -359,22 +359,22 @@ listed_scopes tree u n node set there p scope s l at is =
 
 -- ---- envelopes
 
-envelopes_from : (u : Member) (n k : ℕ) (authors : List (List ℕ)) (a : List ℕ) → k ≡ n + length authors → seen_envelopes u n (authors ++ a ∷ []) ≡ seen_envelopes u n authors ++ (a, has_entry u k) ∷ []
-envelopes_from u n k [] a e = let same : n ≡ k = omega arith in ap (λ (i : ℕ). (let p : List ℕ × Bool = (a, has_entry u i) in p ∷ [])) same
-envelopes_from u n k (b ∷ authors) a e = ap (λ ps. (b, has_entry u n) ∷ ps) (envelopes_from u (n + 1) k authors a (omega arith))
+envelopes_from : (u : Member) (n k : ℕ) (authors : List (List ℕ)) (a : List ℕ) → k ≡ n + length authors → seen_envelopes u n (authors ++ a ∷ []) ≡ seen_envelopes u n authors ++ (a, entry_of u k) ∷ []
+envelopes_from u n k [] a e = let same : n ≡ k = omega arith in ap (λ (i : ℕ). (let p : List ℕ × GrantedBy = (a, entry_of u i) in p ∷ [])) same
+envelopes_from u n k (b ∷ authors) a e = ap (λ ps. (b, entry_of u n) ∷ ps) (envelopes_from u (n + 1) k authors a (omega arith))
 
 -- one envelope more
 pub envelopes_more :
-    (u : Member) (authors : List (List ℕ)) (n : ℕ) (seen : List (List ℕ × Bool)) (author : List ℕ) (granted : Bool) → n < length authors
-    → seen ≡ seen_envelopes u 1 (take n authors) → author ≡ author_in authors (n + 1) → granted ≡ has_entry u (n + 1)
+    (u : Member) (authors : List (List ℕ)) (n : ℕ) (seen : List (List ℕ × GrantedBy)) (author : List ℕ) (granted : GrantedBy) → n < length authors
+    → seen ≡ seen_envelopes u 1 (take n authors) → author ≡ author_in authors (n + 1) → granted ≡ entry_of u (n + 1)
     → seen ++ (author, granted) ∷ [] ≡ seen_envelopes u 1 (take (n + 1) authors)
 envelopes_more u authors n seen author granted l are is own =
     let next : n + 1 ≡ suc n = omega arith in
     let here : author ≡ get_or authors n [] = is ∙ ap (author_in authors) next in
     let count : n + 1 ≡ 1 + length (take n authors) = let long = length-take n authors in omega arith in
-    ap (λ (ps : List (List ℕ × Bool)). ps ++ (author, granted) ∷ []) are
+    ap (λ (ps : List (List ℕ × GrantedBy)). ps ++ (author, granted) ∷ []) are
     ∙ ap (λ (a : List ℕ). seen_envelopes u 1 (take n authors) ++ (a, granted) ∷ []) here
-    ∙ ap (λ (b : Bool). seen_envelopes u 1 (take n authors) ++ (get_or authors n [], b) ∷ []) own
+    ∙ ap (λ (b : GrantedBy). seen_envelopes u 1 (take n authors) ++ (get_or authors n [], b) ∷ []) own
     ∙ sym (ap (seen_envelopes u 1) (take_more authors n [] l) ∙ envelopes_from u 1 (n + 1) (take n authors) (get_or authors n []) count)
 
 -- as many nodes as objects

@@ -1,14 +1,14 @@
 -- The members that users of a policy are.
-use Rattle.std.specs.Prelude.{ℕ, map, String, string_bytes}
+use Rattle.std.specs.Prelude.{map, String, string_bytes}
 use Rattle.std.specs.declared.alloc.Global.{Global}
-use Rattle.vp_pragma.specs.Rights.{RightSet, set_of}
+use Rattle.vp_pragma.specs.Rights.{set_of}
 use Rattle.vp_policy.specs.declared.grant.Grant.{Grant}
 use Rattle.vp_policy.specs.declared.policy.User.{User}
-use Rattle.vp_policy.specs.Users.{Member}
+use Rattle.vp_policy.specs.Users.{GrantEntry, Member}
 
--- a grant: its envelope, and what it gives there
-abbrev pub grant_shown : Grant → ℕ × RightSet
-grant_shown g = (g.envelope, set_of g.access)
+-- a grant as an entry
+abbrev pub grant_shown : Grant → GrantEntry
+grant_shown g = record { envelope = g.envelope; access = set_of g.access; names_author = g.names_author }
 
 -- a user by his name
 abbrev pub member_of : String Global × User → Member

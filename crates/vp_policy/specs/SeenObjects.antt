@@ -2,6 +2,7 @@
 use Rattle.std.specs.Prelude.{ℕ, ◌+◌, Bool, if◌then◌else◌, List, [], ◌∷◌, ◌++◌, map, slice_get, Option, Some, None, option_and_then}
 use Rattle.std.specs.Option.{option_map_or}
 use Rattle.vp_pragma.specs.Rights.{set_of}
+use Rattle.vp_policy.specs.declared.grant.GrantedBy.{GrantedBy}
 use Rattle.vp_policy.specs.declared.view.SeenEnvelope.{SeenEnvelope}
 use Rattle.vp_policy.specs.declared.view.SeenObject.{SeenObject}
 use Rattle.vp_policy.specs.declared.view.SeenViewport as declared
@@ -42,8 +43,8 @@ abbrev pub nodes_from : List SeenNode → List SeenObject → List SeenNode
 nodes_from nodes [] = nodes
 nodes_from nodes (o ∷ objects) = nodes_from (nodes ++ node_after nodes o ∷ []) objects
 
--- the author of an envelope, and whether the user has a grant entry for it
-abbrev pub envelope_shown : SeenEnvelope → List ℕ × Bool
+-- the author of an envelope, and by what the user has a grant entry for it
+abbrev pub envelope_shown : SeenEnvelope → List ℕ × GrantedBy
 envelope_shown e = (e.author, e.granted)
 
 -- what is seen of the objects, the closed list of the top modules, the envelopes and the run flag

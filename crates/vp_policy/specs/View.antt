@@ -11,7 +11,8 @@ use Rattle.vp_elab.specs.Built.{Elaborated}
 use Rattle.vp_elab.specs.Tree.{Step, Node, Tree, matches, names_of}
 use Rattle.vp_operand.specs.Arena.{is_width}
 use Rattle.vp_resolve.specs.Constants.{constant_of}
-use Rattle.vp_policy.specs.Users.{Member, has_entry}
+use Rattle.vp_policy.specs.declared.grant.GrantedBy.{GrantedBy}
+use Rattle.vp_policy.specs.Users.{Member, entry_of}
 use Rattle.vp_policy.specs.Filter.{closed, is_listed, rights}
 
 -- a viewport as a user sees it: the object that it names, and the rights that it opens (profile)
@@ -39,11 +40,11 @@ pub record SeenNode : Type 0 where
   pub closed_list : List ℕ
 
 -- what a user sees of a design: the objects that are listed to him, the closed list of the top modules, of each envelope
--- its author and whether he has a grant entry for it, and whether he may run the design (profile)
+-- its author and by what he has a grant entry for it, and whether he may run the design (profile)
 pub record View : Type 0 where
   pub nodes : List SeenNode
   pub closed_list : List ℕ
-  pub envelopes : List (List ℕ × Bool)
+  pub envelopes : List (List ℕ × GrantedBy)
   pub run : Bool
 
 -- a viewport as every user sees it whose object it matches: its line is not reported (profile)
@@ -97,9 +98,9 @@ seen_node design u node = record {
   closed_list = closed design.tree u (names_of node.path);
 }
 
--- the authors of envelopes from number n on, each with whether the user has an entry
-abbrev pub seen_envelopes : Member → ℕ → List (List ℕ) → List (List ℕ × Bool)
-seen_envelopes u n authors = map (λ e. (e.1, has_entry u e.0)) (enumerate_from n authors)
+-- the authors of envelopes from number n on, each with by what the user has an entry
+abbrev pub seen_envelopes : Member → ℕ → List (List ℕ) → List (List ℕ × GrantedBy)
+seen_envelopes u n authors = map (λ e. (e.1, entry_of u e.0)) (enumerate_from n authors)
 
 -- of these objects those that are listed to a user, as he sees them
 abbrev pub seen_nodes : Elaborated → Member → List Node → List SeenNode

@@ -17,7 +17,7 @@ mod view;
 pub use access::Access;
 pub use denial::{Denial, DenialText, DeniedBy, Look, ShownBarrier};
 pub use error::PolicyError;
-pub use grant::Grant;
+pub use grant::{Grant, GrantedBy};
 pub use policy::{Policy, User, UserId};
 pub use reading::{USER_LIMIT, read_policy};
 pub use view::{SeenEnvelope, SeenObject, SeenViewport, View};

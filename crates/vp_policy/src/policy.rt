@@ -7,11 +7,11 @@ ghost use Rattle.vp_policy.specs.Members.{member_of};
 ghost use Rattle.vp_policy.specs.PolicyState.{Fits};
 ghost use Rattle.vp_policy.specs.Regrants.{is_operator, regranted};
 ghost use Rattle.vp_policy.specs.RightsTables.{AreTables};
-ghost use Rattle.vp_policy.specs.Users.{granted, has_entry, login_of, member_at, user_of};
+ghost use Rattle.vp_policy.specs.Users.{entry_of, granted, has_entry, login_of, member_at, user_of};
 
 use crate::copying::{copied, copied_users};
 use crate::error::PolicyError;
-use crate::grant::{Grant, has_grant};
+use crate::grant::{Grant, GrantedBy, entry_among, has_grant};
 use crate::regrant::{regranted, set_tables, set_user};
 use crate::rights_tables::{
     RightsTables, UserTables, granted_row, rights_among, tables_of, user_tables,
@@ -220,6 +220,16 @@ impl Policy {
         match self.users.get_index(user.0) {
             Some((_, user)) => has_grant(user.grants.as_slice(), envelope),
             None => false,
+        }
+    }
+
+    /// By what he has a grant for an envelope.
+    pub(crate) fn entry_of(&self, user: UserId, envelope: u8) -> GrantedBy
+        ensures { result ≡ entry_of (member_at self.now.members user.0) envelope }
+    {
+        match self.users.get_index(user.0) {
+            Some((_, user)) => entry_among(user.grants.as_slice(), envelope),
+            None => GrantedBy::Nothing,
         }
     }
 

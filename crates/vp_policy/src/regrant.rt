@@ -27,13 +27,14 @@ fn with_grant(
 {
     let mut changed = Vec::new(alloc);
     for grant in grants {
-        if grant.envelope != u64::from(envelope) {
+        if grant.envelope != envelope {
             changed.push(*grant)?;
         }
     }
     changed.push(Grant {
-        envelope: u64::from(envelope),
+        envelope,
         access,
+        names_author: false,
     })?;
     Ok(Sequence::from_vec(changed))
 }

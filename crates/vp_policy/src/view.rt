@@ -10,6 +10,7 @@ ghost use Rattle.vp_policy.specs.View.{HasScope, HoldScopes, is_parameter, is_va
 
 use crate::copying::copied;
 use crate::error::PolicyError;
+use crate::grant::GrantedBy;
 use crate::policy::{Policy, UserId};
 use std::alloc::Global;
 use std::marker::Model;
@@ -58,8 +59,8 @@ pub struct SeenObject {
 #[derive(Drop)]
 pub struct SeenEnvelope {
     pub author: SharedText,
-    /// He has a grant for it, be it empty.
-    pub granted: bool,
+    /// By what he has a grant for it, be it empty.
+    pub granted: GrantedBy,
 }
 
 /// What a user sees of a design. A contract sees each object with its path.
@@ -269,7 +270,7 @@ impl Policy {
             let number = before + 1;
             envelopes.push(SeenEnvelope {
                 author: design.shared_author(number)?,
-                granted: self.has_entry(user, number),
+                granted: self.entry_of(user, number),
             })?;
         }
         Ok(Sequence::from_vec(envelopes))

@@ -8,6 +8,7 @@ use Rattle.vp_pragma.specs.Access.{access_of}
 use Rattle.vp_pragma.specs.Rights.{RightSet, everything, nothing}
 use Rattle.vp_elab.specs.declared.object.Kind.{Kind}
 use Rattle.vp_elab.specs.declared.object.Kind.TheVariants as kind
+use Rattle.vp_policy.specs.declared.grant.GrantedBy.TheVariants as by
 use Rattle.vp_policy.specs.View.{SeenNode, SeenStep, View}
 use Rattle.vp_replay.specs.Outline.{access_text, outline_of}
 
@@ -65,7 +66,7 @@ example = record {
       ∷ inner_node (top ∷ inner ∷ step (codes "s") 1 ∷ []) kind.Reg 8
       ∷ [];
   closed_list = [];
-  envelopes = (codes "acme", true) ∷ (codes "soc team", false) ∷ [];
+  envelopes = (codes "acme", by.Number) ∷ (codes "soc team", by.Nothing) ∷ [];
   run = true;
 }
 
@@ -93,10 +94,27 @@ outline_of_closed = refl
 
 -- an author can't write a line of his own
 outline_of_author :
-    outline_of (record { nodes = []; closed_list = []; envelopes = (codes "acme\" granted\nrun", false) ∷ []; run = false })
+    outline_of (record {
+      nodes = [];
+      closed_list = [];
+      envelopes = (codes "acme\" granted\nrun", by.Nothing) ∷ [];
+      run = false;
+    })
     ≡ lines (codes "envelope 1 \"acme\\\" granted\\nrun\"" ∷ [])
 unfolding serde_json_on_literals digits
 outline_of_author = refl
+
+-- an entry by the author, and one by the number in an envelope of the same author
+outline_of_author_grant :
+    outline_of (record {
+      nodes = [];
+      closed_list = [];
+      envelopes = (codes "acme", by.Author) ∷ (codes "acme", by.Number) ∷ [];
+      run = false;
+    })
+    ≡ lines (codes "envelope 1 \"acme\" granted by author" ∷ codes "envelope 2 \"acme\" granted" ∷ [])
+unfolding serde_json_on_literals digits
+outline_of_author_grant = refl
 
 -- who sees nothing of a text without envelopes
 outline_of_nothing : outline_of (record { nodes = []; closed_list = []; envelopes = []; run = false }) ≡ []

@@ -8,6 +8,7 @@ use Rattle.std.proofs.lemmas.List.Elements.{filter-append}
 use Rattle.std.proofs.lemmas.List.Concat.{flat_map-append}
 use Rattle.vp_pragma.specs.declared.rights.Right.{Right}
 use Rattle.vp_pragma.specs.Rights.{RightSet, has, name_of}
+use Rattle.vp_policy.specs.declared.grant.GrantedBy.{GrantedBy}
 use Rattle.vp_policy.specs.declared.view.SeenEnvelope.{SeenEnvelope}
 use Rattle.vp_policy.specs.declared.view.SeenObject.{SeenObject}
 use Rattle.vp_policy.specs.SeenObjects.{envelope_shown, node_after, nodes_from, own_step, path_to}
@@ -24,11 +25,13 @@ words_text-append a b = flat_map-append (λ (word : List ℕ). 32 ∷ word) a b
 -- ---- envelopes
 
 -- a number more
-numbered_same : (n m : ℕ) (e : List ℕ × Bool) → m ≡ n → envelope_line (n, e) ≡ envelope_line (m, e)
+numbered_same : (n m : ℕ) (e : List ℕ × GrantedBy) → m ≡ n → envelope_line (n, e) ≡ envelope_line (m, e)
 numbered_same n m e is = ap (λ (k : ℕ). envelope_line (k, e)) (sym is)
 
 -- one envelope more
-pub envelopes_more : (n m : ℕ) (es : List (List ℕ × Bool)) (e : List ℕ × Bool) → m ≡ n + length es → flat_map envelope_line (enumerate_from n (es ++ e ∷ [])) ≡ flat_map envelope_line (enumerate_from n es) ++ envelope_line (m, e)
+pub envelopes_more : (n m : ℕ) (es : List (List ℕ × GrantedBy)) (e : List ℕ × GrantedBy) → m ≡ n + length es
+    → flat_map envelope_line (enumerate_from n (es ++ e ∷ []))
+    ≡ flat_map envelope_line (enumerate_from n es) ++ envelope_line (m, e)
 envelopes_more n m [] e is =
     let same : m ≡ n = omega arith in append-nil (envelope_line (n, e)) ∙ numbered_same n m e same
 envelopes_more n m (x ∷ es) e is =
@@ -42,14 +45,16 @@ pub envelopes_written :
     → was ≡ before ++ flat_map envelope_line (enumerate_from 1 (map envelope_shown (take i es))) → now ≡ was ++ envelope_line (i + 1, envelope_shown e)
     → now ≡ before ++ flat_map envelope_line (enumerate_from 1 (map envelope_shown (take (i + 1) es)))
 envelopes_written es e i before was now within here so_far pushed =
-    let shown : List (List ℕ × Bool) = map envelope_shown (take i es) in
+    let shown : List (List ℕ × GrantedBy) = map envelope_shown (take i es) in
     let lines : List ℕ = flat_map envelope_line (enumerate_from 1 shown) in
     let long : i + 1 ≡ 1 + length shown = let a = length-map (take i es) envelope_shown in let b = length-take i es in omega arith in
     let more : map envelope_shown (take (i + 1) es) ≡ shown ++ envelope_shown e ∷ [] =
     ap (map envelope_shown) (take_more es i e within ∙ ap (λ (x : SeenEnvelope). take i es ++ x ∷ []) (sym here)) ∙ map-append envelope_shown (take i es) (e ∷ []) in
     pushed ∙ ap (λ (x : List ℕ). x ++ envelope_line (i + 1, envelope_shown e)) so_far
     ∙ append_assoc before lines (envelope_line (i + 1, envelope_shown e))
-    ∙ ap (λ (x : List ℕ). before ++ x) (sym (ap (λ (l : List (List ℕ × Bool)). flat_map envelope_line (enumerate_from 1 l)) more ∙ envelopes_more 1 (i + 1) shown (envelope_shown e) long))
+    ∙ ap (λ (x : List ℕ). before ++ x)
+    (sym (ap (λ (l : List (List ℕ × GrantedBy)). flat_map envelope_line (enumerate_from 1 l)) more
+    ∙ envelopes_more 1 (i + 1) shown (envelope_shown e) long))
 
 -- ---- objects
 

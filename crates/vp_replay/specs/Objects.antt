@@ -6,6 +6,7 @@ use Rattle.vp_bits.specs.declared.bit.Bit.TheVariants.{Unknown}
 use Rattle.vp_pragma.specs.declared.rights.Right.TheVariants as right
 use Rattle.vp_pragma.specs.declared.rights.Rights.{Rights}
 use Rattle.vp_pragma.specs.Rights.{has, set_of}
+use Rattle.vp_policy.specs.declared.grant.GrantedBy.{GrantedBy}
 use Rattle.vp_policy.specs.SeenObjects.{path_to}
 use Rattle.vp_policy.specs.View.{SeenNode, View}
 
@@ -23,8 +24,8 @@ most_steps (Some o) = o + 1
 abbrev pub names_to : List SeenNode → (scope : Option ℕ) → List (List ℕ)
 names_to nodes scope = map (λ s. s.name) (path_to nodes scope)
 
--- the author of the envelope of a number, and whether the user has a grant entry for it; none of the open text
-abbrev pub envelope_at : View → (number : ℕ) → Option (List ℕ × Bool)
+-- the author of the envelope of a number, and by what the user has a grant entry for it; none of the open text
+abbrev pub envelope_at : View → (number : ℕ) → Option (List ℕ × GrantedBy)
 envelope_at v zero = None
 envelope_at v (suc n) = slice_get v.envelopes n
 

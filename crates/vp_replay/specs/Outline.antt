@@ -9,6 +9,8 @@ use Rattle.vp_pragma.specs.declared.rights.Right.TheVariants as right
 use Rattle.vp_pragma.specs.Rights.{RightSet, has, name_of}
 use Rattle.vp_elab.specs.declared.object.Kind.{Kind}
 use Rattle.vp_elab.specs.Tree.{has_value, type_name}
+use Rattle.vp_policy.specs.declared.grant.GrantedBy.{GrantedBy}
+use Rattle.vp_policy.specs.declared.grant.GrantedBy.TheVariants as by
 use Rattle.vp_policy.specs.View.{SeenNode, SeenStep, View}
 
 -- ---- lines
@@ -45,6 +47,12 @@ abbrev pub closed_words : List ℕ → List (List ℕ)
 closed_words [] = []
 closed_words (n ∷ numbers) = codes "closed" ∷ map decimal (n ∷ numbers)
 
+-- the words for a grant entry, by what it is; none where there is no entry
+abbrev pub granted_words : GrantedBy → List (List ℕ)
+granted_words by.Nothing = []
+granted_words by.Number = codes "granted" ∷ []
+granted_words by.Author = codes "granted" ∷ codes "by" ∷ codes "author" ∷ []
+
 -- the word for the width of a value; none where there is no value
 abbrev pub width_words : Kind → (width : ℕ) → List (List ℕ)
 width_words kind width = word_if (has_value kind) (decimal width)
@@ -77,9 +85,9 @@ node_line node = line_at node node.path
 abbrev pub quoted : List ℕ → List ℕ
 quoted text = compact_text (string text)
 
--- the line for an envelope: its number and its author, and whether the user has a grant entry for it
-abbrev pub envelope_line : ℕ × (List ℕ × Bool) → List ℕ
-envelope_line e = line_of (codes "envelope" ∷ decimal e.0 ∷ quoted e.1.0 ∷ word_if e.1.1 (codes "granted"))
+-- the line for an envelope: its number and its author, and by what the user has a grant entry for it
+abbrev pub envelope_line : ℕ × (List ℕ × GrantedBy) → List ℕ
+envelope_line e = line_of (codes "envelope" ∷ decimal e.0 ∷ quoted e.1.0 ∷ granted_words e.1.1)
 
 -- what a user sees: whether he may let the design run, the envelopes, the closed list of the top modules, and the objects in preorder
 abbrev pub outline_of : View → List ℕ

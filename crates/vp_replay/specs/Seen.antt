@@ -14,6 +14,7 @@ use Rattle.vp_elab.specs.Tree.{below, dotted}
 use Rattle.vp_policy.specs.declared.denial.ShownBarrier.{ShownBarrier}
 use Rattle.vp_policy.specs.declared.denial.ShownBarrier.TheVariants as barrier
 use Rattle.vp_policy.specs.Denials.{DenialText}
+use Rattle.vp_policy.specs.Users.{is_entry}
 use Rattle.vp_policy.specs.View.{SeenStep, SeenViewport, View}
 use Rattle.vp_vpi.specs.declared.races.ShownRace.{ShownRace}
 use Rattle.vp_vpi.specs.Observers.{Absent, Denied, Found, Lookup, Observer, is_readable}
@@ -28,7 +29,7 @@ author_seen v (suc n) = option_map_or (λ e. e.0) (slice_get v.envelopes n) []
 -- the user has a grant entry for an envelope
 abbrev pub has_entry_seen : View → (envelope : ℕ) → Bool
 has_entry_seen v zero = false
-has_entry_seen v (suc n) = option_map_or (λ e. e.1) (slice_get v.envelopes n) false
+has_entry_seen v (suc n) = option_map_or (λ e. is_entry e.1) (slice_get v.envelopes n) false
 
 -- what keeps the user out of an envelope by his grant
 abbrev pub barrier_by_grant : View → (envelope : ℕ) → ShownBarrier

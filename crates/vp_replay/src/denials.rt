@@ -1,12 +1,15 @@
 // Why a right is denied, in words.
 ghost use Rattle.std.specs.Prelude.{◌≡◌, IfOk, IsSome, OnErr, map, option_map};
 ghost use Rattle.vp_policy.specs.SeenObjects.{envelope_shown, own_step, viewport_shown};
+ghost use Rattle.vp_policy.specs.Users.{is_entry};
 ghost use Rattle.vp_replay.specs.Objects.{envelope_at};
 ghost use Rattle.vp_replay.specs.Seen.{author_seen, barrier_at, barrier_by_grant, denied_seen, first_object, has_entry_seen, words_at};
 
 use crate::path::first_missing_step;
 use std::alloc::{AllocError, Global};
-use vp_policy::{DenialText, SeenEnvelope, SeenObject, SeenViewport, ShownBarrier, View};
+use vp_policy::{
+    DenialText, GrantedBy, SeenEnvelope, SeenObject, SeenViewport, ShownBarrier, View,
+};
 use vp_pragma::Right;
 use vp_text::{SharedText, Text};
 
@@ -29,12 +32,22 @@ pub fn author(view: &View, envelope: u8) -> Result<SharedText, AllocError>
     }
 }
 
+/// The user has an entry, by the envelope's number or by its author.
+fn is_entry(granted: GrantedBy) -> bool
+    ensures { result ≡ is_entry granted }
+{
+    match granted {
+        GrantedBy::Nothing => false,
+        GrantedBy::Number | GrantedBy::Author => true,
+    }
+}
+
 /// The user has a grant entry for an envelope.
 fn has_entry(view: &View, envelope: u8) -> bool
     ensures { result ≡ has_entry_seen view.now envelope }
 {
     match envelope_at(view, envelope) {
-        Some(envelope) => envelope.granted,
+        Some(envelope) => is_entry(envelope.granted),
         None => false,
     }
 }

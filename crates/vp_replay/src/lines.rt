@@ -7,7 +7,8 @@ ghost use Rattle.vp_replay.specs.OutlinedObjects.{object_line, steps_above};
 ghost use Rattle.vp_replay.specs.Outline.{closed_words, envelope_line, line_of, node_line, outline_of, word_if, words_text};
 
 use crate::words::{
-    push_access, push_closed, push_envelope, push_numbers, push_quoted, push_width, push_word,
+    push_access, push_closed, push_envelope, push_granted, push_numbers, push_quoted, push_width,
+    push_word,
 };
 use std::alloc::{AllocError, Global};
 use vp_policy::{SeenEnvelope, SeenObject, View};
@@ -33,9 +34,7 @@ fn push_envelope_line(
 {
     write!(text, "envelope {number}")?;
     push_quoted(alloc, text, envelope.author.as_str())?;
-    if envelope.granted {
-        push_word(text, "granted")?;
-    }
+    push_granted(text, envelope.granted)?;
     text.push('\n')
 }
 

@@ -1,11 +1,12 @@
 // The words of a line.
 ghost use Rattle.std.specs.Prelude.{◌≡◌, ◌++◌, ◌∷◌, decimal, filter, map, string_bytes, IfOk, OnOk};
 ghost use Rattle.vp_pragma.specs.Rights.{has, name_of, set_of};
-ghost use Rattle.vp_replay.specs.Outline.{access_text, closed_words, envelope_words, every_right, quoted, width_words, words_text};
+ghost use Rattle.vp_replay.specs.Outline.{access_text, closed_words, envelope_words, every_right, granted_words, quoted, width_words, words_text};
 
 use serde_json::Value;
 use std::alloc::{AllocError, Global};
 use vp_elab::Kind;
+use vp_policy::GrantedBy;
 use vp_pragma::{Right, Rights};
 
 /// The rights, in the order in which they are reported.
@@ -74,6 +75,18 @@ pub fn push_envelope(line: &mut String, envelope: u8) -> Result<(), AllocError>
     }
     push_word(line, "envelope")?;
     push_number(line, u32::from(envelope))
+}
+
+/// Adds the words for a grant entry, by what it is.
+pub fn push_granted(line: &mut String, granted: GrantedBy) -> Result<(), AllocError>
+    ensures { OnOk result (string_bytes line.new
+        ≡ string_bytes line.old ++ words_text (granted_words granted)) }
+{
+    match granted {
+        GrantedBy::Nothing => Ok(()),
+        GrantedBy::Number => push_word(line, "granted"),
+        GrantedBy::Author => line.push_str(" granted by author"),
+    }
 }
 
 /// Adds the word for the width of a value.

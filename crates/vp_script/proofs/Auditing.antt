@@ -37,18 +37,18 @@ policy_is p tree is = ap (λ (t : Tree). policy_for t (file_in p)) is
 pub record IsRead (text bytes : List ℕ) (design : Elaborated) (policy : PolicyState) : Type 0 where
   pub of : IsDesignOf text design
   pub fits : length bytes ≤ text_limit
-  pub is_file : file_of (length design.tree.authors) bytes ≡ Ok (file_in policy)
+  pub is_file : file_of design.tree.authors bytes ≡ Ok (file_in policy)
   pub for_it : Fits policy design.tree
 
 -- the same of a design that is shared, and lent to the reading of the policy file
 pub read_of :
     (text bytes : List ℕ) (shared lent : Elaborated) (policy : PolicyState) → IsDesignOf text shared → lent ≡ shared
-    → length bytes ≤ text_limit → file_of (length lent.tree.authors) bytes ≡ Ok (file_in policy) → Fits policy lent.tree
+    → length bytes ≤ text_limit → file_of lent.tree.authors bytes ≡ Ok (file_in policy) → Fits policy lent.tree
     → IsRead text bytes shared policy
 read_of text bytes shared lent policy of is_lent fits is_file for_it = record {
   of = of;
   fits = fits;
-  is_file = subst (λ (d : Elaborated). file_of (length d.tree.authors) bytes ≡ Ok (file_in policy)) is_lent is_file;
+  is_file = subst (λ (d : Elaborated). file_of d.tree.authors bytes ≡ Ok (file_in policy)) is_lent is_file;
   for_it = for_it ∙ ap (λ (d : Elaborated). d.tree) is_lent;
 }
 

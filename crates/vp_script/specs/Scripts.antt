@@ -187,7 +187,7 @@ pub record IsOpened (text policy : List ℕ) (world : WorldLog) : Type 0 where
   pub is_design : IsDesignOf text design
   pub fits : length policy ≤ text_limit
   pub file : PolicyFile
-  pub is_file : file_of (length design.tree.authors) policy ≡ Ok file
+  pub is_file : file_of design.tree.authors policy ≡ Ok file
   pub fresh : world ≡ new_world (opening_of design (policy_for design.tree file))
 
 -- a script over an input has read it to the end, so many lines, and each was answered what the script answers it; and it is this script
@@ -220,7 +220,7 @@ pub record IsStopped (e : WireError) (script : Script) (unread still_unread held
 abbrev pub IsPolicyRefusedBy : Elaborated → List ℕ → ServeFault → Type 0
 IsPolicyRefusedBy design policy fault.TooLong = text_limit < length policy
 IsPolicyRefusedBy design policy (fault.Policy e) =
-    (length policy ≤ text_limit) × MayExplain policy_error.NoMemory (result_err (file_of (length design.tree.authors) policy)) e
+    (length policy ≤ text_limit) × MayExplain policy_error.NoMemory (result_err (file_of design.tree.authors policy)) e
 IsPolicyRefusedBy design policy (fault.World e) = e ≡ error.NoMemory
 IsPolicyRefusedBy design policy fault.NoMemory = Unit {0}
 IsPolicyRefusedBy design policy f = ⊥

@@ -17,7 +17,7 @@ use Rattle.vp_script.specs.Scripts.{IsPolicyRefusedBy}
 -- a policy file gives this for a design
 pub record Gives (policy : List ℕ) (design : Elaborated) (file : PolicyFile) : Type 0 where
   pub fits : length policy ≤ text_limit
-  pub is_file : file_of (length design.tree.authors) policy ≡ Ok file
+  pub is_file : file_of design.tree.authors policy ≡ Ok file
 
 -- a policy file is right for a design
 abbrev pub IsPolicyFor : Elaborated → List ℕ → Type 0

@@ -45,7 +45,7 @@ pub(crate) fn checked(alloc: Global, text: &str) -> Result<Arc<Checked>, ServeFa
 /// The policy of a file, for a design.
 pub(crate) fn policy_of(alloc: Global, bytes: &[u8], design: &Design) -> Result<Policy, ServeFault>
     ensures file { IfOk result
-        (λ policy. file_of (length design.now.tree.authors) bytes.now ≡ Ok (file_in policy)) }
+        (λ policy. file_of design.now.tree.authors bytes.now ≡ Ok (file_in policy)) }
     ensures design { IfOk result (λ policy. Fits policy design.now.tree) }
     ensures fits { OnOk result (length bytes.now ≤ TEXT_LIMIT) }
     ensures refused { IfErr result (λ fault. IsPolicyRefusedBy design.now bytes.now fault) }

@@ -2,6 +2,7 @@
 use Rattle.std.proofs.Common.{◌≡◌, ℕ, zero, suc, ◌+◌, ◌<◌, ◌≤◌, Bool, false, true, List, [], ◌∷◌, ◌++◌, length, Option, Some, None, refl, ap, sym, subst, ◌∙◌, arith}
 use Rattle.vp_policy.specs.declared.denial.ShownBarrier.TheVariants as barrier
 use Rattle.vp_policy.specs.declared.denial.DeniedBy.TheVariants as by
+use Rattle.vp_policy.specs.declared.grant.GrantedBy.TheVariants as granted
 use Rattle.std.specs.Prelude.{cond, slice_index_or, ◌==◌, ◌&&◌, ◌||◌, filter, if◌then◌else◌, map, option_map, slice_get}
 use Rattle.std.specs.List.{All, position_from}
 use Rattle.std.proofs.lemmas.Iterator.Adapters.{position_from-zero}
@@ -14,7 +15,7 @@ use Rattle.vp_pragma.specs.Rights.{RightSet, both, everything, has}
 use Rattle.vp_elab.specs.Built.{Elaborated}
 use Rattle.vp_elab.specs.Tree.{Node, Step, Tree, author_in, first_viewport, matches}
 use Rattle.vp_policy.specs.Filter.{barrier_of, by_first, by_grant, by_step, denial, denial_at, opened, rights, viewport_object, words_of}
-use Rattle.vp_policy.specs.Users.{Member, has_entry}
+use Rattle.vp_policy.specs.Users.{Member, all_name_author, entry_of, has_entry, has_grant, is_entry}
 use Rattle.vp_policy.specs.View.{seen_envelopes, seen_node, seen_path, seen_step, seen_viewport, known_view, marked}
 use Rattle.vp_replay.specs.Known.{known_index}
 use Rattle.vp_replay.specs.laws.Known.{get_marked}
@@ -68,10 +69,20 @@ pub author_is : (design : Elaborated) (u : Member) (known : List Bool) (envelope
 author_is design u known zero = refl
 author_is design u known (suc n) = author_same u 1 design.tree.authors n
 
+-- what a user has for an envelope is an entry where he has one
+entry_is : (u : Member) (envelope : ℕ) → is_entry (entry_of u envelope) ≡ has_entry u envelope
+entry_is u envelope = by_tests (has_grant u.grants envelope) (all_name_author u.grants envelope) where
+  by_tests : (there by_author : Bool)
+      → is_entry (if there then (if by_author then granted.Author else granted.Number) else granted.Nothing) ≡ there
+  by_tests true true = refl
+  by_tests true false = refl
+  by_tests false by_author = refl
+
 -- whether the user has an entry for one
-entry_same : (u : Member) (n : ℕ) (authors : List (List ℕ)) (k : ℕ) → k < length authors → option_map_or (λ e. e.1) (slice_get (seen_envelopes u n authors) k) false ≡ has_entry u (n + k)
+entry_same : (u : Member) (n : ℕ) (authors : List (List ℕ)) (k : ℕ) → k < length authors
+    → option_map_or (λ e. is_entry e.1) (slice_get (seen_envelopes u n authors) k) false ≡ has_entry u (n + k)
 entry_same u n [] k l = absurd (omega arith)
-entry_same u n (a ∷ authors) zero l = ap (has_entry u) (omega arith)
+entry_same u n (a ∷ authors) zero l = let e : n ≡ n + zero = omega arith in entry_is u n ∙ ap (has_entry u) e
 entry_same u n (a ∷ authors) (suc k) l = let e : n + 1 + k ≡ n + suc k = omega arith in entry_same u (n + 1) authors k (omega arith) ∙ ap (has_entry u) e
 
 -- what keeps a user out, by whether his grant does

@@ -6,4 +6,4 @@ use Rattle.vp_policy.proofs.regrant.with_grant.Given as goal
 -- the other grants so far
 abbrev pub invariant-loop-grant : goal.invariant-loop-grant
 invariant-loop-grant l =
-    map grant_shown l.changed.items ≡ filter (λ g. not (g.0 == l.envelope)) (map grant_shown (take l.grant-index l.grants))
+    map grant_shown l.changed.items ≡ filter (λ g. not (g.envelope == l.envelope)) (map grant_shown (take l.grant-index l.grants))

@@ -1,4 +1,4 @@
-use Rattle.std.proofs.Common.{◌≡◌, ◌∙◌, ◌<◌, ap, length, sym, arith}
+use Rattle.std.proofs.Common.{◌∙◌, ◌<◌, ap, length, arith}
 use Rattle.vp_elab.specs.Tree.{Tree}
 use Rattle.vp_policy.specs.Filter.{is_listed_at}
 use Rattle.vp_policy.specs.Users.{Member, member_at}

@@ -10,7 +10,7 @@ loop-before-preserved c =
     let user : Member = member_at c.args.self.now.members c.args.user.0 in
     let seen = c.loop-before.envelopes.items in
     let author = c.in_ok-shared_author.field-0 in
-    let granted = c.has_entry.result in
+    let granted = c.entry_of.result in
     ap (map envelope_shown) (c.in_ok-push.ensures {u = tt}).items ∙ map-append envelope_shown seen (record { author = author; granted = granted } ∷ [])
     ∙ envelopes_more user c.args.design.now.tree.authors c.loop-before.before (map envelope_shown seen) author granted (omega arith) c.loop-before.invariant
-    (c.in_ok-shared_author.ensures {u = tt}) c.has_entry.ensures
+    (c.in_ok-shared_author.ensures {u = tt}) c.entry_of.ensures

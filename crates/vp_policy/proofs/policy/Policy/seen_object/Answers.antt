@@ -1,9 +1,6 @@
-use Rattle.std.proofs.Common.{◌∙◌, ap, refl, List, Option, Some, ℕ}
-use Rattle.std.specs.Prelude.{option_map}
-use Rattle.vp_elab.specs.declared.object.ObjectId.{ObjectId}
+use Rattle.std.proofs.Common.{◌∙◌, ap, refl, Some}
 use Rattle.vp_elab.specs.Tree.{Tree}
 use Rattle.vp_policy.specs.Filter.{closed_in, rights_at}
-use Rattle.vp_policy.specs.SeenObjects.{number_in}
 use Rattle.vp_policy.specs.Users.{Member, member_at}
 use Rattle.vp_policy.proofs.Views.{seen_is}
 use Rattle.vp_policy.proofs.policy.Policy.seen_object.Goals as goal

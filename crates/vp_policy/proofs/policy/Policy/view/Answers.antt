@@ -1,7 +1,7 @@
 use Rattle.std.proofs.Common.{◌≡◌, ◌∙◌, Bool, List, IfOk, ap, subst, sym}
 use Rattle.vp_elab.specs.Built.{Elaborated}
 use Rattle.vp_policy.specs.Users.{Member, member_at}
-use Rattle.vp_policy.specs.View.{HoldScopes, View, known_view, listed_marks}
+use Rattle.vp_policy.specs.View.{HoldScopes, View, known_view}
 use Rattle.vp_policy.proofs.Views.{listed_scopes, listed_view}
 use Rattle.vp_policy.proofs.policy.Policy.view.Goals as goal
 
