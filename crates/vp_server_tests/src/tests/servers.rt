@@ -5,7 +5,7 @@ use std::alloc::Global;
 use std::net::{Ipv4Addr, Net, TcpListener, TcpStream};
 use std::sync::Wait;
 use std::thread::{Threads, join};
-use std::time::Clock;
+use std::time::{Clock, Duration};
 use vp_hub::{Limits, Report, Settings, serve};
 use vp_race::Gate;
 
@@ -15,13 +15,57 @@ pub const POLICY: &[u8] = b"{\"operator\":\"op\",\"users\":[\
 {\"name\":\"bob\",\"token\":\"t2\",\"open\":\"list+read+watch+put+race\",\
 \"grants\":[{\"envelope\":1,\"access\":\"list+read+watch+put+race\"}]}]}";
 
+/// What a server is asked for, but for its version: that is a text of the program's, which no closure of clients outlives.
+#[derive(Clone, Copy)]
+pub struct Asked {
+    workers: u32,
+    sessions: u32,
+    keep: bool,
+    opening_time: Duration,
+    reading_silence: Duration,
+    reading_time: Duration,
+    ended_time: Duration,
+    simulation_rest: Duration,
+}
+
+impl Asked {
+    /// These settings, without the version.
+    fn of(settings: Settings) -> Asked {
+        Asked {
+            workers: settings.workers,
+            sessions: settings.sessions,
+            keep: settings.keep,
+            opening_time: settings.opening_time,
+            reading_silence: settings.reading_silence,
+            reading_time: settings.reading_time,
+            ended_time: settings.ended_time,
+            simulation_rest: settings.simulation_rest,
+        }
+    }
+
+    /// The settings, with an empty version.
+    fn settings(self) -> Settings {
+        Settings {
+            workers: self.workers,
+            sessions: self.sessions,
+            keep: self.keep,
+            opening_time: self.opening_time,
+            reading_silence: self.reading_silence,
+            reading_time: self.reading_time,
+            ended_time: self.ended_time,
+            version: "",
+            simulation_rest: self.simulation_rest,
+        }
+    }
+}
+
 /// A server on a port of 127.0.0.1.
 #[derive(Clone, Copy)]
 pub struct Server {
     pub limits: Limits,
     /// Below the ports that the system gives to connections, of which one that was used lately can't be listened on.
     pub port: u16,
-    pub settings: Settings,
+    pub asked: Asked,
 }
 
 impl Server {
@@ -30,7 +74,7 @@ impl Server {
         Server {
             limits: Limits::GREATEST,
             port,
-            settings,
+            asked: Asked::of(settings),
         }
     }
 }
@@ -45,7 +89,7 @@ where
     let Server {
         limits,
         port,
-        settings,
+        asked,
     } = server;
     let Some(world) = world_with(alloc, text, POLICY, limits) else {
         return Err(0);
@@ -54,7 +98,7 @@ where
         drop(world);
         return Err(0);
     };
-    match serve(rt, alloc, world, settings, &listener, gate) {
+    match serve(rt, alloc, world, asked.settings(), &listener, gate) {
         Ok(closed) => {
             let entries = closed.entry_count();
             drop(closed);
